@@ -354,9 +354,8 @@ struct vtdm_answer vtdm_width_of(struct vtdm *manager, uint64_t domain);
  *
  * WHAT IS PROVED, of a unit that does what docs/PROVED.md takes for granted (crates/moments, crates/quiet, crates/driven). The effects
  * bring each word and each context entry that the call has changed, and send all its descriptors in their order. Whatever of them has
- * reached memory, the unit finds each page as before the call or as after it; in place, so during a map or an unmap (MEMORY). After the last of
- * them it has nothing cached of what the call set free. That you do what they ask is yours, and so is the order of a context entry's
- * words. */
+ * reached memory, the unit finds each page as before the call or as after it; in place, so during a map or an unmap (MEMORY). After the
+ * last of them it has nothing cached of what the call set free. That you do what they ask is yours. */
 
 /* What an effect asks. The comment names the members that it uses; the others are 0. */
 enum vtdm_effect_kind {
@@ -366,7 +365,8 @@ enum vtdm_effect_kind {
     /* None: what was brought before is in memory before what follows. That is a fence. Where the unit doesn't snoop the processor's
      * caches, write back what was brought before it; where it asks for its write buffer to be flushed (RWBF), do that. */
     VTDM_EFFECT_BARRIER = 2,
-    /* `number`: bring the context entry of this device, which vtdm_context has: the low word last, or first where its bit 0 goes. */
+    /* `number`, `first`: bring the context entry of this device, which vtdm_context has. The low word goes first where `first` is 0, the
+     * high word where it is 1. */
     VTDM_EFFECT_CONTEXT = 3,
     /* `low`, `high`: put the descriptor of these words into the unit's queue, and tell it the new tail. */
     VTDM_EFFECT_SEND = 4,

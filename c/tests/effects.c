@@ -101,12 +101,13 @@ static bool is_queued(struct vtdm *manager, uint64_t from) {
 /* The members that a kind doesn't use are 0, and it names what there is. */
 static bool is_good(const struct vtdm_effect *it) {
     bool words = it->kind == VTDM_EFFECT_WORDS, send = it->kind == VTDM_EFFECT_SEND;
-    bool unused = (words || (!it->first && !it->count)) && (send || (!it->low && !it->high));
+    bool context = it->kind == VTDM_EFFECT_CONTEXT;
+    bool unused = (words || context || !it->first) && (words || !it->count) && (send || (!it->low && !it->high));
     switch (it->kind) {
     case VTDM_EFFECT_WORDS:
         return unused && it->count && it->first < TABLE_WORDS &&
                it->number * TABLE_WORDS + it->first + it->count <= (uint64_t)TABLE_FRAMES * TABLE_WORDS;
-    case VTDM_EFFECT_CONTEXT: return unused && it->number < VTDM_DEVICES;
+    case VTDM_EFFECT_CONTEXT: return unused && it->number < VTDM_DEVICES && it->first < 2;
     case VTDM_EFFECT_AWAIT: return unused && it->number;
     default: return unused && !it->number && (send || it->kind == VTDM_EFFECT_BARRIER);
     }

@@ -367,14 +367,14 @@ static void check_effects(void) {
     CHECK(are_none(effects, 0, VTDM_MOST_EFFECTS));
     ANSWERS(vtdm_domain_of(&manager, 3), VTDM_OK, 1);
     ANSWERS(vtdm_effects(&manager, effects, 2), VTDM_OK, 2);
-    CHECK(effect_is(&effects[0], VTDM_EFFECT_CONTEXT, 3, 0, 0) && effect_is(&effects[1], VTDM_EFFECT_BARRIER, 0, 0, 0));
+    CHECK(effect_is(&effects[0], VTDM_EFFECT_CONTEXT, 3, 1, 0) && effect_is(&effects[1], VTDM_EFFECT_BARRIER, 0, 0, 0));
     CHECK(are_none(effects, 2, VTDM_MOST_EFFECTS));
     ANSWERS(vtdm_effects(&manager, effects, VTDM_MOST_EFFECTS), VTDM_OK, 0);
-    CHECK(effect_is(&effects[0], VTDM_EFFECT_CONTEXT, 3, 0, 0) && are_none(effects, 2, VTDM_MOST_EFFECTS));
+    CHECK(effect_is(&effects[0], VTDM_EFFECT_CONTEXT, 3, 1, 0) && are_none(effects, 2, VTDM_MOST_EFFECTS));
     ANSWERS(vtdm_attach(&manager, 4, 1), VTDM_OK, 0);
     ANSWERS(vtdm_attach(&manager, 5, 1), VTDM_OK, 0);
     ANSWERS(vtdm_effects(&manager, effects, VTDM_MOST_EFFECTS), VTDM_OK, 2);
-    CHECK(effect_is(&effects[0], VTDM_EFFECT_CONTEXT, 5, 0, 0) && are_none(effects, 2, VTDM_MOST_EFFECTS));
+    CHECK(effect_is(&effects[0], VTDM_EFFECT_CONTEXT, 5, 1, 0) && are_none(effects, 2, VTDM_MOST_EFFECTS));
     ANSWERS(vtdm_attach(&manager, 6, 1), VTDM_OK, 0);
     ANSWERS(vtdm_map_list(&manager, 1, 0, VTDM_READ, segments, MANY_SEGMENTS), VTDM_MANY_SEGMENTS, 0);
     ANSWERS(vtdm_evict(&manager, VTDM_CACHE_FAULT + 1, 0), VTDM_BAD_CACHE, 0);

@@ -184,14 +184,13 @@ static bool barrier(void) {
     return true;
 }
 
-/* The low word has the bit that makes an entry present: it is brought last, and cleared first. */
-static bool bring_context(struct vtdm *manager, uint64_t device) {
-    struct vtdm_context_answer entry = vtdm_context(manager, device);
-    struct pair *to = &unit_memory.contexts[device];
-    if (!(entry.low & 1))
-        bring(&to->low, entry.low);
-    bring(&to->high, entry.high);
+static bool bring_context(struct vtdm *manager, const struct vtdm_effect *it) {
+    struct vtdm_context_answer entry = vtdm_context(manager, it->number);
+    struct pair *to = &unit_memory.contexts[it->number];
+    if (it->first)
+        bring(&to->high, entry.high);
     bring(&to->low, entry.low);
+    bring(&to->high, entry.high);
     return true;
 }
 
@@ -199,7 +198,7 @@ bool unit_follow(struct vtdm *manager, const struct vtdm_effect *effect) {
     switch (effect->kind) {
     case VTDM_EFFECT_WORDS: return bring_words(manager, effect);
     case VTDM_EFFECT_BARRIER: return barrier();
-    case VTDM_EFFECT_CONTEXT: return bring_context(manager, effect->number);
+    case VTDM_EFFECT_CONTEXT: return bring_context(manager, effect);
     case VTDM_EFFECT_SEND: return queue((struct pair){effect->low, effect->high});
     case VTDM_EFFECT_AWAIT: return await(effect->number);
     default: return false;

@@ -155,14 +155,14 @@ static void bring_words(struct vtdm *manager, struct vtdm_effect it) {
     }
 }
 
-/* The low word has the bit that makes an entry present: it is brought last, and cleared first. */
-static void bring_context(struct vtdm *manager, uint64_t device) {
-    struct vtdm_context_answer entry = vtdm_context(manager, device);
+/* The half that goes first is the one without the bit that makes an entry present, or with it where the entry goes. */
+static void bring_context(struct vtdm *manager, struct vtdm_effect it) {
+    struct vtdm_context_answer entry = vtdm_context(manager, it.number);
 #ifdef WITHOUT_BASE
     entry.low -= entry.low ? unit.base * PAGE : 0;
 #endif
-    uint64_t at = unit.contexts + 16 * (device << 3); /* function 0 */
-    bool low_first = !entry.low;
+    uint64_t at = unit.contexts + 16 * (it.number << 3); /* function 0 */
+    bool low_first = it.first == 0;
 #ifdef WRONG_HALVES
     low_first = !low_first;
 #endif
@@ -196,7 +196,7 @@ static void do_as_asked(struct vtdm *manager, struct vtdm_effect it) {
         __asm__ volatile("" ::: "memory");
         break;
     case VTDM_EFFECT_CONTEXT:
-        bring_context(manager, it.number);
+        bring_context(manager, it);
         break;
     case VTDM_EFFECT_SEND:
         send(it);

@@ -19,18 +19,21 @@ use Rattle.driven.specs.Driven.{Tells}
 use Rattle.driven.specs.Effects.{AreEffects, BringsAll, EndInBarrier, IsForMemory, IsQuiet, Sends, in_order, waited}
 use Rattle.driven.specs.Laws.{MayChange}
 use Rattle.driven.specs.Telling.{IsSentBy, with_wait}
-use Rattle.driven.proofs.Brought.{none_for_memory, one_for_memory}
+use Rattle.driven.proofs.Brought.{none_for_tables, one_for_tables}
 use Rattle.driven.proofs.Fills.{none_fill}
 use Rattle.driven.proofs.Sent.{IsSilent, silent}
 use Rattle.driven.proofs.Told.{nothing_in_order, one_entry, sent_part, whole_row, words_stay}
 
 -- a device's context entry and the barrier after it
-abbrev pub entry_told : ℕ → List Effect
-entry_told device = Context device ∷ Barrier ∷ []
+abbrev pub entry_told : ℕ → Half → List Effect
+entry_told device first = Context device first ∷ Barrier ∷ []
 
-entry_for_memory : (device : ℕ) → All IsForMemory (entry_told device)
-entry_for_memory device =
-    All-append IsForMemory (Context device ∷ []) (Barrier ∷ []) (one_for_memory (Context device) tt) (one_for_memory Barrier tt)
+entry_for_memory : (t : State) (device : ℕ) (first : Half) → first ≡ first_half (slice_get t.iommu.contexts device)
+    → All (λ e. IsForMemory t e) (entry_told device first)
+entry_for_memory t device first is =
+    All-append (λ e. IsForMemory t e) (Context device first ∷ []) (Barrier ∷ [])
+    (All-push (λ e. IsForMemory t e) [] (Context device first) (for_memory t [] none_for_tables) is)
+    (for_memory t (Barrier ∷ []) (one_for_tables Barrier tt))
 
 none_quiet : (reply : Reply) → IsQuiet reply []
 none_quiet (Refused refusal) = refl
@@ -41,7 +44,7 @@ module _ (m t : State) (call : Call) (reply : Reply) (sound : IsSound m) (ticket
   -- no word and no entry was changed
   pub nothing : t.iommu.contexts ≡ m.iommu.contexts → BringsAll m t []
   nothing row = record {
-    for_memory = none_for_memory;
+    for_memory = for_memory t [] none_for_tables;
     words = words_stay m t call reply tickets does sound none [];
     contexts = whole_row m t row [];
     fills = none_fill m t call reply sound does none [];
@@ -49,23 +52,20 @@ module _ (m t : State) (call : Call) (reply : Reply) (sound : IsSound m) (ticket
   }
 
   -- the entry of one device was, at most
-  pub entry : (device : ℕ) (es : List Effect) → All IsForMemory es → EndInBarrier es → IsIn (Context device) es
+  pub one_for_entry : (device : ℕ) (first : Half) → first ≡ first_half (slice_get t.iommu.contexts device)
       → (t.iommu.contexts ≡ m.iommu.contexts) ⊎ ((e : ContextEntry) × (t.iommu.contexts ≡ slice_set m.iommu.contexts device e))
-      → BringsAll m t es
-  entry device es for_memory ends told row = record {
-    ends = ends;
-    for_memory = for_memory;
-    words = words_stay m t call reply tickets does sound none es;
+      → BringsAll m t (entry_told device first)
+  one_for_entry device first half row = record {
+    ends = inr (Context device first ∷ [], refl);
+    for_memory = entry_for_memory t device first half;
+    words = words_stay m t call reply tickets does sound none (entry_told device first);
     contexts = elim row [
-      | inl same ↦ whole_row m t same es
-      | inr other ↦ one_entry m t device other.0 other.1 es told
+      | inl same ↦ whole_row m t same (entry_told device first)
+      | inr other ↦ one_entry m t device other.0 other.1 (entry_told device first)
+          (inl (ap (λ h. Context device h) (sym half)))
     ];
-    fills = none_fill m t call reply sound does none es;
+    fills = none_fill m t call reply sound does none (entry_told device first);
   }
-
-  pub one_for_entry : (device : ℕ) → (t.iommu.contexts ≡ m.iommu.contexts)
-      ⊎ ((e : ContextEntry) × (t.iommu.contexts ≡ slice_set m.iommu.contexts device e)) → BringsAll m t (entry_told device)
-  one_for_entry device row = entry device (entry_told device) (entry_for_memory device) (inr (Context device ∷ [], refl)) (inl refl) row
 
   -- a call that submits nothing
   pub sends_none : IsSilent call → Sends m call t []

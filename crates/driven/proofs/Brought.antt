@@ -18,7 +18,7 @@ use Rattle.engine.specs.Walkable.{table_at}
 use Rattle.engine.proofs.lists.Membership.{in_left, in_right}
 use Rattle.driven.specs.declared.effect.Effect.{Effect}
 use Rattle.driven.specs.declared.effect.Effect.TheVariants.{Barrier, Words}
-use Rattle.driven.specs.Effects.{Brings, EndInBarrier, IsBrought, IsForMemory}
+use Rattle.driven.specs.Effects.{Brings, EndInBarrier, IsBrought, IsForTables}
 use Rattle.driven.specs.Telling.{BringsFrames, BringsLevel, BringsLowest, BringsMapped, BringsPart, BringsTable, BringsUnmapped}
 use Rattle.driven.specs.Telling.{BringsUpper, BringsWalks, BringsWhole, TablesStay}
 
@@ -51,17 +51,28 @@ none_brought f k (e, (inside, brings)) = inside
 pub brought_one : (e : Effect) (f k : ℕ) → Brings e f k → IsBrought (e ∷ []) f k
 brought_one e f k brings = (e, (inl refl, brings))
 
-pub none_for_memory : All IsForMemory []
-none_for_memory k d less = absurd (omega (arith, less))
+pub none_for_tables : All IsForTables []
+none_for_tables k d less = absurd (omega (arith, less))
 
-pub one_for_memory : (e : Effect) → IsForMemory e → All IsForMemory (e ∷ [])
-one_for_memory e h = All-push IsForMemory [] e none_for_memory h
+pub one_for_tables : (e : Effect) → IsForTables e → All IsForTables (e ∷ [])
+one_for_tables e h = All-push IsForTables [] e none_for_tables h
+
+of_tables : (t : State) (e : Effect) → IsForTables e → IsForMemory t e
+of_tables t (Words frame first count) h = tt
+of_tables t Barrier h = tt
+of_tables t (Context device first) h = absurd h
+of_tables t (Send low high) h = absurd h
+of_tables t (Await number) h = absurd h
+
+-- what is for tables is for memory
+pub for_memory : (t : State) (es : List Effect) → All IsForTables es → All (λ e. IsForMemory t e) es
+for_memory t es all k d less = of_tables t _ (all k d less)
 
 -- all words of a table
 pub whole_table : (table : Option ℕ) (frame : ℕ) (e : Effect) → table ≡ Some frame → BringsPart frame 0 (TABLE_ENTRIES - 1) e
     → BringsWhole table (e ∷ [])
 whole_table table frame e is part = record {
-  for_memory = one_for_memory e part.0;
+  for_memory = one_for_tables e part.0;
   brings = λ f k at inside.
       let own : frame ≡ f = same_Some frame f (sym is ∙ at) in
       let same : k % TABLE_ENTRIES ≡ k = omega (arith, inside) in
@@ -73,7 +84,7 @@ whole_table table frame e is part = record {
 -- no table
 pub no_table : (table : Option ℕ) → table ≡ None → BringsWhole table []
 no_table table none = record {
-  for_memory = none_for_memory;
+  for_memory = none_for_tables;
   brings = λ f k at inside. absurd (none-some f (sym none ∙ at));
   only = λ f k inside there. absurd (none_brought f k there);
 }
@@ -82,7 +93,7 @@ no_table table none = record {
 pub stays : (was now : Option ℕ) (from to frame : ℕ) (e : Effect) → was ≡ now → now ≡ Some frame → BringsPart frame from to e
     → BringsTable was now from to (e ∷ [])
 stays was now from to frame e same is part = record {
-  for_memory = one_for_memory e part.0;
+  for_memory = one_for_tables e part.0;
   stays = λ f n w there low high.
       subst (λ g. IsBrought (e ∷ []) g (n % TABLE_ENTRIES)) (same_Some frame f (sym is ∙ there))
       (brought_one e frame (n % TABLE_ENTRIES) (part.1 n low high));
@@ -92,7 +103,7 @@ stays was now from to frame e same is part = record {
 
 pub nothing_there : (was now : Option ℕ) (from to : ℕ) → was ≡ now → now ≡ None → BringsTable was now from to []
 nothing_there was now from to same none = record {
-  for_memory = none_for_memory;
+  for_memory = none_for_tables;
   stays = λ f n w there low high. absurd (none-some f (sym none ∙ there));
   changes = λ f k ne h inside. absurd (ne same);
   only = λ f k inside there. absurd (none_brought f k there);
@@ -102,7 +113,7 @@ nothing_there was now from to same none = record {
 pub exchanged : (was now : Option ℕ) (from to : ℕ) (xs ys : List Effect) → was ≢ now → BringsWhole was xs → BringsWhole now ys
     → BringsTable was now from to (xs ++ ys)
 exchanged was now from to xs ys other before after = record {
-  for_memory = All-append IsForMemory xs ys before.for_memory after.for_memory;
+  for_memory = All-append IsForTables xs ys before.for_memory after.for_memory;
   stays = λ f e w n low high. absurd (other (w ∙ sym n));
   changes = λ f k ne h inside.
       elim h [
@@ -128,11 +139,11 @@ module _ (pool : Pool) (h : Option Domain) (first last : ℕ) (x y z : List Effe
     begins = refl;
     ends = inr (Between, refl);
     for_memory =
-        All-append IsForMemory Between (Barrier ∷ [])
-        (All-append IsForMemory (((Barrier ∷ []) ++ x) ++ y) z
-        (All-append IsForMemory ((Barrier ∷ []) ++ x) y
-        (All-append IsForMemory (Barrier ∷ []) x (one_for_memory Barrier tt) two.for_memory) three.for_memory) four.for_memory)
-        (one_for_memory Barrier tt);
+        All-append IsForTables Between (Barrier ∷ [])
+        (All-append IsForTables (((Barrier ∷ []) ++ x) ++ y) z
+        (All-append IsForTables ((Barrier ∷ []) ++ x) y
+        (All-append IsForTables (Barrier ∷ []) x (one_for_tables Barrier tt) two.for_memory) three.for_memory) four.for_memory)
+        (one_for_tables Barrier tt);
     brings = λ level p f low high a b at.
         brought_left Between (Barrier ∷ []) f (index_in (level - 1) p)
         (⊎_elim
@@ -175,7 +186,7 @@ pub ways : (pool : Pool) (h : Option Domain) (from last to : ℕ) (x y : List Ef
     → BringsUpper pool h from last y → BringsWalks pool h from to (x ++ y)
 ways pool h from last to x y end lowest above = record {
   ends = last_barrier x y above.begins above.ends;
-  for_memory = All-append IsForMemory x y lowest.for_memory above.for_memory;
+  for_memory = All-append IsForTables x y lowest.for_memory above.for_memory;
   brings = λ level p f low high a b at.
       let inside : p ≤ last = omega (arith, b, end) in
       ⊎_elim
@@ -192,7 +203,7 @@ pub mapped_in : (pool : Pool) (h : Option Domain) (from last to frame : ℕ) (gr
     → BringsMapped pool h from to grew (e ∷ Barrier ∷ [])
 mapped_in pool h from last to frame grew e end stays is near part = record {
   ends = inr (e ∷ [], refl);
-  for_memory = All-append IsForMemory (e ∷ []) (Barrier ∷ []) (one_for_memory e part.0) (one_for_memory Barrier tt);
+  for_memory = All-append IsForTables (e ∷ []) (Barrier ∷ []) (one_for_tables e part.0) (one_for_tables Barrier tt);
   brings = inr (
     frame,
     (
@@ -219,7 +230,7 @@ unmapped_in pool h first last before x lowest stay = record {
   parted = refl;
   ends = inr (x, refl);
   brings_lowest = lowest;
-  for_memory = All-append IsForMemory x (Barrier ∷ []) lowest.for_memory (one_for_memory Barrier tt);
+  for_memory = All-append IsForTables x (Barrier ∷ []) lowest.for_memory (one_for_tables Barrier tt);
   upper = inl stay;
   spans = λ p was a b at.
       let t = lowest.spans p was a b at in (
@@ -236,7 +247,7 @@ unmapped pool h first last before x y lowest above = record {
   parted = ap (λ es. x ++ es) above.begins;
   ends = last_barrier x y above.begins above.ends;
   brings_lowest = lowest;
-  for_memory = All-append IsForMemory x y lowest.for_memory above.for_memory;
+  for_memory = All-append IsForTables x y lowest.for_memory above.for_memory;
   upper = inr (λ level p f low high a b at. brought_right x y f (index_in (level - 1) p) (above.brings level p f low high a b at));
   spans = λ p was a b at.
       let t = lowest.spans p was a b at in (
@@ -250,7 +261,7 @@ pub frames : (count frame : ℕ) (e : Effect) → frame ≡ 0 → e ≡ Words fr
 frames count frame e none is = record {
   ends = inr (e ∷ [], refl);
   for_memory =
-      All-append IsForMemory (e ∷ []) (Barrier ∷ []) (one_for_memory e (subst IsForMemory (sym is) tt)) (one_for_memory Barrier tt);
+      All-append IsForTables (e ∷ []) (Barrier ∷ []) (one_for_tables e (subst IsForTables (sym is) tt)) (one_for_tables Barrier tt);
   brings = λ f k low inside.
       brought_left (e ∷ []) (Barrier ∷ []) f k (brought_one e f k (subst (λ x. Brings x f k) (sym is) (
         omega (arith, none),

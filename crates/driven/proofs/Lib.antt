@@ -20,3 +20,5 @@ pub mod Fills
 pub mod Moments
 pub mod Detached
 pub mod Stepped
+pub mod Stages
+pub mod Halves

@@ -29,7 +29,7 @@ none_of : (d : Descriptor) (e : Effect) → IsSending d e → (f k : ℕ) → Br
 none_of d (Send low high) sends f k brings = brings
 none_of d (Words frame first count) sends f k brings = sends
 none_of d Barrier sends f k brings = sends
-none_of d (Context device) sends f k brings = sends
+none_of d (Context device first) sends f k brings = sends
 none_of d (Await number) sends f k brings = sends
 
 after_one : (e : Effect) (es : List Effect) → ((f k : ℕ) → Brings e f k → ⊥) → BringsNone es → BringsNone (e ∷ es)

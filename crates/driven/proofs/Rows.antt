@@ -72,3 +72,33 @@ module _ (m t : State) where
   rows (calls.Reap e number) _ is = kept (ap (λ (x : State). x.iommu) is)
   rows (calls.Evict kind place) Done is = ap (λ (x : State). x.iommu.contexts) is
   rows (calls.Evict kind place) _ is = kept (ap (λ (x : State). x.iommu) is)
+
+-- ---- which half goes first
+
+half_of_set : (row : List ContextEntry) (device root : ℕ) (width : Width) (domain : ℕ)
+    → High ≡ first_half (slice_get (slice_set row device (Present root width domain)) device)
+half_of_set [] device root width domain = refl
+half_of_set (x ∷ xs) zero root width domain = refl
+half_of_set (x ∷ xs) (suc i) root width domain = half_of_set xs i root width domain
+
+half_of_cleared : (row : List ContextEntry) (device : ℕ) (e : ContextEntry) → slice_get row device ≡ Some e
+    → Low ≡ first_half (slice_get (slice_set row device Absent) device)
+half_of_cleared [] device e h = absurd (none-some e h)
+half_of_cleared (x ∷ xs) zero e h = refl
+half_of_cleared (x ∷ xs) (suc i) e h = half_of_cleared xs i e h
+
+-- an entry that is there after the call has its present bit last
+pub attached_half : (m t : State) (device domain : ℕ) → Becomes m (calls.Attach device domain) Done t
+    → High ≡ first_half (slice_get t.iommu.contexts device)
+unfolding Becomes
+attached_half m t device domain (h, here, is) =
+    half_of_set m.iommu.contexts device h.root h.width domain
+    ∙ ap (λ row. first_half (slice_get row device)) (sym (ap (λ (x : State). x.iommu.contexts) is))
+
+-- one that goes has it first
+pub detached_half : (m t : State) (device : ℕ) → Becomes m (calls.Detach device) Done t
+    → Low ≡ first_half (slice_get t.iommu.contexts device)
+unfolding Becomes
+detached_half m t device (e, root, width, at, done, is) =
+    half_of_cleared m.iommu.contexts device (Present root width e) at
+    ∙ ap (λ row. first_half (slice_get row device)) (sym done.contexts)

@@ -28,7 +28,7 @@ use Rattle.driven.specs.declared.effect.Effect.TheVariants.{Context}
 use Rattle.driven.specs.Effects.{AreEffects, BringsAll, IsBrought, IsSending, Sends, by_mode, in_mode, in_order, waited}
 use Rattle.driven.specs.Laws.{MayChange}
 use Rattle.driven.specs.Telling.{HasSent, IsSentBy, with_wait}
-use Rattle.driven.proofs.Brought.{none_for_memory}
+use Rattle.driven.proofs.Brought.{none_for_tables}
 use Rattle.driven.proofs.Calls.{calls_change}
 use Rattle.driven.proofs.Fills.{same_fill}
 use Rattle.driven.proofs.Sent.{submits}
@@ -77,7 +77,7 @@ nothing_in_order m (calls.Evict kind place) = refl
 -- what needs nothing brought
 pub brings_nothing : (m t : State) → t.pool.words ≡ m.pool.words → t.iommu.contexts ≡ m.iommu.contexts → BringsAll m t []
 brings_nothing m t words row = record {
-  for_memory = none_for_memory;
+  for_memory = for_memory t [] none_for_tables;
   words = λ f k inside differs. absurd (differs (ap (λ ws. word ws f k) (sym words)));
   contexts = λ v differs. absurd (differs (ap (λ r. slice_get r v) (sym row)));
   fills = same_fill m t words [];
@@ -162,13 +162,14 @@ module _ (m t : State) (call : Call) (reply : Reply) (tickets : KeepsTickets m) 
 
 -- a device's entry alone was changed
 pub one_entry : (m t : State) (device : ℕ) (e : ContextEntry) → t.iommu.contexts ≡ slice_set m.iommu.contexts device e → (es : List Effect)
-    → IsIn (Context device) es → (v : ℕ) → slice_get m.iommu.contexts v ≢ slice_get t.iommu.contexts v → IsIn (Context v) es
+    → IsIn (Context device (first_half (slice_get t.iommu.contexts device))) es → (v : ℕ)
+    → slice_get m.iommu.contexts v ≢ slice_get t.iommu.contexts v → IsIn (Context v (first_half (slice_get t.iommu.contexts v))) es
 one_entry m t device e is es told v differs =
     elim (same_or_not v device) [
-      | inl same ↦ subst (λ n. IsIn (Context n) es) (sym same) told
+      | inl same ↦ subst (λ n. IsIn (Context n (first_half (slice_get t.iommu.contexts n))) es) (sym same) told
       | inr ne ↦ absurd (differs (sym (ap (λ r. slice_get r v) is ∙ get_set_other m.iommu.contexts device v e ne)))
     ]
 
 pub whole_row : (m t : State) → t.iommu.contexts ≡ m.iommu.contexts → (es : List Effect) (v : ℕ)
-    → slice_get m.iommu.contexts v ≢ slice_get t.iommu.contexts v → IsIn (Context v) es
+    → slice_get m.iommu.contexts v ≢ slice_get t.iommu.contexts v → IsIn (Context v (first_half (slice_get t.iommu.contexts v))) es
 whole_row m t row es v differs = absurd (differs (ap (λ r. slice_get r v) (sym row)))

@@ -77,7 +77,7 @@ module _ (m t : State) (d frame pages order rights address : ℕ) (sound : IsSou
       → BringsMapped t.pool (domain_at t.domains d) (address / PAGE_BYTES) (address / PAGE_BYTES + pages) grew es
       → BringsAll m t es
   map_brings grew same es brings = record {
-    for_memory = brings.for_memory;
+    for_memory = for_memory t es brings.for_memory;
     ends = brings.ends;
     words = map_words does.becomes grew same es brings;
     contexts = whole_row m t (rows m t (calls.Map d frame pages order rights) (Mapped address) does.becomes) es;
@@ -112,7 +112,7 @@ module _ (m t : State) (d order rights address : ℕ) (segments : ArrayVec Segme
       → BringsMapped t.pool (domain_at t.domains d) (address / PAGE_BYTES) (address / PAGE_BYTES + total_pages segments.items) grew es
       → BringsAll m t es
   list_brings grew same es brings = record {
-    for_memory = brings.for_memory;
+    for_memory = for_memory t es brings.for_memory;
     ends = brings.ends;
     words = list_words does.becomes grew same es brings;
     contexts = whole_row m t (rows m t (calls.MapList d order rights segments) (Mapped address) does.becomes) es;
@@ -172,7 +172,7 @@ module _ (m t : State) (d address pages released : ℕ) (sound : IsSound m)
       → AreTablesOf m.pool (domain_at m.domains d) (address / PAGE_BYTES) last before → (es : List Effect)
       → BringsUnmapped t.pool (domain_at t.domains d) (address / PAGE_BYTES) last before es → BringsAll m t es
   unmap_brings last end before were es brings = record {
-    for_memory = brings.for_memory;
+    for_memory = for_memory t es brings.for_memory;
     ends = brings.ends;
     words = λ f k inside differs.
         elim (calls_change m t (calls.Unmap d address pages) (Unmapped released) f k sound does inside differs) [
@@ -223,7 +223,7 @@ module _ (m t : State) (d : ℕ) (sound : IsSound m) (does : Does m (calls.Drop 
 
   pub drop_brings : (es : List Effect) → BringsFrames t.pool.frames es → BringsAll m t es
   drop_brings es brings = record {
-    for_memory = brings.for_memory;
+    for_memory = for_memory t es brings.for_memory;
     ends = brings.ends;
     words = drop_by does.becomes es brings;
     contexts = whole_row m t (rows m t (calls.Drop d) Done does.becomes) es;

@@ -36,11 +36,24 @@ Brings effect f k = ⊥
 abbrev pub IsBrought : List Effect → ℕ → ℕ → Type 0
 IsBrought effects f k = (effect : Effect) × (IsIn effect effects × Brings effect f k)
 
--- nothing is sent and nothing waited for
-abbrev pub IsForMemory : Effect → Type 0
-IsForMemory (Send low high) = ⊥
-IsForMemory (Await number) = ⊥
-IsForMemory effect = Unit {0}
+-- words of table frames, or a barrier
+abbrev pub IsForTables : Effect → Type 0
+IsForTables (Words frame first count) = Unit {0}
+IsForTables Barrier = Unit {0}
+IsForTables effect = ⊥
+
+-- which half of a context entry is brought first: where the entry is absent after the call the one with the present bit, else the other, so
+-- that an entry that is read as present is whole
+abbrev pub first_half : Option ContextEntry → Half
+first_half (Some Absent) = Low
+first_half entry = High
+
+-- nothing is sent and nothing waited for, and a context entry is brought by that half first
+abbrev pub IsForMemory : State → Effect → Type 0
+IsForMemory t (Words frame first count) = Unit {0}
+IsForMemory t Barrier = Unit {0}
+IsForMemory t (Context device first) = first ≡ first_half (slice_get t.iommu.contexts device)
+IsForMemory t effect = ⊥
 
 -- where a table takes the place of a leaf of 2 MiB, all of its words are brought before a barrier, and the word that names it isn't
 abbrev pub FillsTables : State → State → List Effect → Type 0
@@ -59,9 +72,10 @@ EndInBarrier effects = (effects ≡ []) ⊎ ((earlier : List Effect) × (effects
 -- They bring every word of a table frame, and every context entry, that isn't as before. All of it is in memory before what follows: a
 -- descriptor, or the next call
 pub record BringsAll (m t : State) (effects : List Effect) : Type 0 where
-  pub for_memory : All IsForMemory effects
+  pub for_memory : All (λ effect. IsForMemory t effect) effects
   pub words : (f k : ℕ) → k < TABLE_ENTRIES → word m.pool.words f k ≢ word t.pool.words f k → IsBrought effects f k
-  pub contexts : (v : ℕ) → slice_get m.iommu.contexts v ≢ slice_get t.iommu.contexts v → IsIn (Context v) effects
+  pub contexts : (v : ℕ) → slice_get m.iommu.contexts v ≢ slice_get t.iommu.contexts v
+      → IsIn (Context v (first_half (slice_get t.iommu.contexts v))) effects
   pub fills : FillsTables m t effects
   pub ends : EndInBarrier effects
 

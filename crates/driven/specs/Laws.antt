@@ -90,6 +90,34 @@ EffectsAreOldOrNew =
     → IsReadInOrder effects reached
     → IsOldOrNew m.pool.words t.pool.words reached h.width h.root page
 
+-- The effects are done in their order, the first first. When a walk reads a level, so many of them are done, and the next one maybe in part.
+-- It reads as brought what these bring, and nothing that only later ones bring
+pub record IsReadMeanwhile (effects : List Effect) (done : ℕ → ℕ) (reached : Reached) : Type 0 where
+  pub brought : (level frame index : ℕ) → IsBrought (take (done level) effects) frame index → reached level frame index ≡ true
+  pub only : (level frame index : ℕ) → reached level frame index ≡ true → IsBrought (take (suc (done level)) effects) frame index
+
+-- Whoever does them so keeps the barriers, as far as a walk can tell that reads each level no sooner than the level above
+abbrev pub EffectsDoneAreReadInOrder : Type 0
+EffectsDoneAreReadInOrder =
+    (effects : List Effect) (done : ℕ → ℕ) (reached : Reached)
+    → GoesDown done
+    → IsReadMeanwhile effects done reached
+    → IsReadInOrder effects reached
+
+-- So such a walk finds each page as before the call or as after it, however many of its effects are done when it reads each level
+abbrev pub EachStageIsOldOrNew : Type 0
+EachStageIsOldOrNew =
+    (m t : State) (call : Call) (reply : Reply) (effects : List Effect) (domain : ℕ) (h h' : Domain) (done : ℕ → ℕ) (reached : Reached)
+    (page : ℕ)
+    → IsSound m
+    → Does m call reply t
+    → AreEffects m call reply t effects
+    → domain_at m.domains domain ≡ Some h
+    → domain_at t.domains domain ≡ Some h'
+    → GoesDown done
+    → IsReadMeanwhile effects done reached
+    → IsOldOrNew m.pool.words t.pool.words reached h.width h.root page
+
 -- and where all that is brought has reached memory, each word is read as after the call
 abbrev pub EffectsLeadThere : Type 0
 EffectsLeadThere =
@@ -98,3 +126,32 @@ EffectsLeadThere =
     → index < TABLE_ENTRIES
     → (IsBrought effects frame index → reached level frame index ≡ true)
     → word_read m.pool.words t.pool.words reached level frame index ≡ word t.pool.words frame index
+
+-- ---- context entries
+
+-- the words of a context entry that a unit reads: those halves as after the call that have reached memory, and else as before it
+abbrev pub halves_read : Words → Words → (Half → Bool) → Words
+halves_read old new reached = record {
+  low = if reached Low then new.low else old.low;
+  high = if reached High then new.high else old.high;
+}
+
+-- the half that is brought first is read as brought where the other is
+abbrev pub IsReadFirst : Half → (Half → Bool) → Type 0
+IsReadFirst first reached = (half : Half) → reached half ≡ true → reached first ≡ true
+
+-- bit 0 says whether an entry is present: where it isn't, a unit looks at no other
+abbrev pub IsReadAs : Words → Words → Type 0
+IsReadAs read words = (read ≡ words) ⊎ ((read.low % 2 ≡ 0) × (words.low % 2 ≡ 0))
+
+-- Whatever halves of a device's context entry have reached memory when a unit reads it, it reads the entry as before the call or as after
+-- it. That asks only that the half that the effects bring first reaches memory first.
+abbrev pub ContextsAreOldOrNew : Type 0
+ContextsAreOldOrNew =
+    (m t : State) (call : Call) (reply : Reply) (device : ℕ) (old new : Words) (reached : Half → Bool)
+    → IsSound m
+    → Does m call reply t
+    → SpellsContext m device old
+    → SpellsContext t device new
+    → IsReadFirst (first_half (slice_get t.iommu.contexts device)) reached
+    → IsReadAs (halves_read old new reached) old ⊎ IsReadAs (halves_read old new reached) new

@@ -14,7 +14,7 @@ use Rattle.engine.specs.State.{State}
 use Rattle.engine.specs.Walkable.{table_at}
 use Rattle.driven.specs.declared.effect.Effect.{Effect}
 use Rattle.driven.specs.declared.effect.Effect.TheVariants.{Await, Barrier}
-use Rattle.driven.specs.Effects.{Brings, EndInBarrier, IsBrought, IsForMemory, IsSending}
+use Rattle.driven.specs.Effects.{Brings, EndInBarrier, IsBrought, IsForTables, IsSending}
 
 -- in how many tables of a level the words of the pages from one to another can lie
 abbrev pub most_tables : ℕ → ℕ → ℕ → ℕ
@@ -24,12 +24,12 @@ most_tables level first last =
 -- the words from the entry of a number to that of another in the table of that frame, and no word of another frame
 abbrev pub BringsPart : ℕ → ℕ → ℕ → Effect → Type 0
 BringsPart frame from to effect =
-    IsForMemory effect × ((e : ℕ) → from ≤ e → e ≤ to → Brings effect frame (e % TABLE_ENTRIES))
+    IsForTables effect × ((e : ℕ) → from ≤ e → e ≤ to → Brings effect frame (e % TABLE_ENTRIES))
     × ((f k : ℕ) → k < TABLE_ENTRIES → Brings effect f k → frame ≡ f)
 
 -- the words of a level on the ways of the pages from one to another
 pub record BringsLevel (pool : Pool) (h : Option Domain) (level first last : ℕ) (effects : List Effect) : Type 0 where
-  pub for_memory : All IsForMemory effects
+  pub for_memory : All IsForTables effects
   pub brings : (p f : ℕ) → first ≤ p → p ≤ last → table_at pool h p level ≡ Some f → IsBrought effects f (index_in (level - 1) p)
 
 -- the words of the levels above the lowest, between two barriers
@@ -37,19 +37,19 @@ pub record BringsUpper (pool : Pool) (h : Option Domain) (first last : ℕ) (eff
   pub rest : List Effect
   pub begins : effects ≡ Barrier ∷ rest
   pub ends : EndInBarrier effects
-  pub for_memory : All IsForMemory effects
+  pub for_memory : All IsForTables effects
   pub brings : (level p f : ℕ) → 2 ≤ level → level ≤ 4 → first ≤ p → p ≤ last → table_at pool h p level ≡ Some f
       → IsBrought effects f (index_in (level - 1) p)
 
 -- all words of a table, if there is one
 pub record BringsWhole (table : Option ℕ) (effects : List Effect) : Type 0 where
-  pub for_memory : All IsForMemory effects
+  pub for_memory : All IsForTables effects
   pub brings : (f k : ℕ) → table ≡ Some f → k < TABLE_ENTRIES → IsBrought effects f k
   pub only : (f k : ℕ) → k < TABLE_ENTRIES → IsBrought effects f k → table ≡ Some f
 
 -- of a table that stays the words of the pages from one to another, else all words of the one that went and of the one that came
 pub record BringsTable (was now : Option ℕ) (from to : ℕ) (effects : List Effect) : Type 0 where
-  pub for_memory : All IsForMemory effects
+  pub for_memory : All IsForTables effects
   pub stays : (f e : ℕ) → was ≡ Some f → now ≡ Some f → from ≤ e → e ≤ to → IsBrought effects f (e % TABLE_ENTRIES)
   pub changes : (f k : ℕ) → was ≢ now → (was ≡ Some f) ⊎ (now ≡ Some f) → k < TABLE_ENTRIES → IsBrought effects f k
   pub only : (f k : ℕ) → k < TABLE_ENTRIES → IsBrought effects f k → (was ≡ Some f) ⊎ (now ≡ Some f)
@@ -74,7 +74,7 @@ IsLowest pool h first last before p f =
 -- the same of the table of each such span, which was one of these
 pub record BringsLowest (pool : Pool) (h : Option Domain) (first last : ℕ) (before : List (Option ℕ)) (effects : List Effect)
     : Type 0 where
-  pub for_memory : All IsForMemory effects
+  pub for_memory : All IsForTables effects
   pub only : (f k : ℕ) → k < TABLE_ENTRIES → IsBrought effects f k → (p : ℕ) × IsLowest pool h first last before p f
   pub spans : (p : ℕ) (was : Option ℕ) → first ≤ p → p ≤ last → slice_get before (p / SPAN_PAGES - first / SPAN_PAGES) ≡ Some was
       → ((f : ℕ) → was ≡ Some f → table_at pool h p 1 ≡ Some f → IsBrought effects f (p % TABLE_ENTRIES))
@@ -96,7 +96,7 @@ TablesStay pool h first last before =
 -- the words on the ways of the pages from one up to another
 pub record BringsWalks (pool : Pool) (h : Option Domain) (from to : ℕ) (effects : List Effect) : Type 0 where
   pub ends : EndInBarrier effects
-  pub for_memory : All IsForMemory effects
+  pub for_memory : All IsForTables effects
   pub brings : (level p f : ℕ) → 1 ≤ level → level ≤ 4 → from ≤ p → p < to → table_at pool h p level ≡ Some f
       → IsBrought effects f (index_in (level - 1) p)
 
@@ -104,7 +104,7 @@ pub record BringsWalks (pool : Pool) (h : Option Domain) (from to : ℕ) (effect
 -- in that table alone, else all words on their ways
 pub record BringsMapped (pool : Pool) (h : Option Domain) (from to : ℕ) (grew : Bool) (effects : List Effect) : Type 0 where
   pub ends : EndInBarrier effects
-  pub for_memory : All IsForMemory effects
+  pub for_memory : All IsForTables effects
   pub brings : BringsWalks pool h from to effects
       ⊎ ((frame : ℕ) × ((grew ≡ false) × (table_at pool h from 1 ≡ Some frame)
       × ((p : ℕ) → from ≤ p → p < to → p / SPAN_PAGES ≡ from / SPAN_PAGES)
@@ -119,7 +119,7 @@ pub record BringsUnmapped (pool : Pool) (h : Option Domain) (first last : ℕ) (
   pub parted : effects ≡ lowest ++ Barrier ∷ rest
   pub ends : EndInBarrier effects
   pub brings_lowest : BringsLowest pool h first last before lowest
-  pub for_memory : All IsForMemory effects
+  pub for_memory : All IsForTables effects
   pub upper : TablesStay pool h first last before
       ⊎ ((level p f : ℕ) → 2 ≤ level → level ≤ 4 → first ≤ p → p ≤ last → table_at pool h p level ≡ Some f
       → IsBrought effects f (index_in (level - 1) p))
@@ -131,7 +131,7 @@ pub record BringsUnmapped (pool : Pool) (h : Option Domain) (first last : ℕ) (
 -- all words of so many table frames
 pub record BringsFrames (frames : ℕ) (effects : List Effect) : Type 0 where
   pub ends : EndInBarrier effects
-  pub for_memory : All IsForMemory effects
+  pub for_memory : All IsForTables effects
   pub brings : (f k : ℕ) → f < frames → k < TABLE_ENTRIES → IsBrought effects f k
 
 -- since so many waits were sent, a descriptor and its wait were submitted, or nothing was

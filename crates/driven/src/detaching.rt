@@ -9,7 +9,7 @@ ghost use Rattle.engine.specs.Steps.{Does};
 ghost use Rattle.driven.specs.Effects.{AreEffects};
 ghost use Rattle.driven.specs.declared.effect.Effect.{Effect};
 
-use crate::effect::Effect;
+use crate::effect::{Effect, Half};
 use crate::telling::{Effects, MOST_EFFECTS, send};
 use dmatypes::Refusal;
 use engine::State;
@@ -29,7 +29,10 @@ pub(crate) fn tell_detach(
     state.keeps();
     let waits = state.waits();
     state.detach(device)?;
-    effects.push(Effect::Context { device });
+    effects.push(Effect::Context {
+        device,
+        first: Half::Low,
+    });
     effects.push(Effect::Barrier);
     send(effects, state, waits, true);
     Ok(())

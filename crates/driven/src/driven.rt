@@ -17,7 +17,7 @@ ghost use Rattle.driven.specs.UpTo.{DoesUpTo};
 ghost use Rattle.driven.specs.declared.telling.TheConstants.{MOST_EFFECTS};
 
 use crate::detaching::{tell_detach, tell_flush};
-use crate::effect::Effect;
+use crate::effect::{Effect, Half};
 use crate::stepping::do_oldest;
 use crate::telling::{Effects, Tables, bring_frames, send};
 use crate::untold::{Before, Untold, forget, note, tell};
@@ -212,7 +212,10 @@ impl Driven {
         let state: &mut State = &mut self.state;
         state.keeps();
         state.attach(device, domain)?;
-        self.effects.push(Effect::Context { device });
+        self.effects.push(Effect::Context {
+            device,
+            first: Half::High,
+        });
         self.effects.push(Effect::Barrier);
         Ok(())
     }

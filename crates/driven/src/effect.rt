@@ -15,10 +15,11 @@ pub enum Effect {
     /// What was brought so far is in memory before what follows: a fence, and the lines written back where the unit doesn't snoop.
     #[default]
     Barrier,
-    /// Bring a device's context entry to memory, as `State::context_words` has it: the half with the present bit last, and first where
-    /// the entry goes (context entry).
+    /// Bring a device's context entry to memory, as `State::context_words` has it: this half, and then the other. The half with the
+    /// present bit goes last, and first where the entry goes (context entry).
     Context {
         device: u64,
+        first: Half,
     },
     /// Put a descriptor into the queue, by its two words, and tell the unit the new tail (queued invalidation). The high word of a wait is
     /// where its status goes: whoever keeps the queue puts an address of its own there.
@@ -28,4 +29,13 @@ pub enum Effect {
     },
     /// Go on when the unit has written the status of the wait of this number. Waits are numbered from 1.
     Await(u64),
+}
+
+/// One of the two words of a context entry (context entry).
+#[derive(Clone, Copy, Debug, PartialEq, Eq)]
+pub enum Half {
+    /// Bits 0 to 63, the present bit among them.
+    Low,
+    /// Bits 64 to 127.
+    High,
 }

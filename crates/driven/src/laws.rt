@@ -1,7 +1,8 @@
 //! What a call changes of the words that a unit reads, what it submits to the queue, and what a walk finds meanwhile. Each function does
 //! nothing: its contract is the law, and its proof is from the public contracts of `engine` and the crates below it.
 
-ghost use Rattle.driven.specs.Laws.{CallsChangeTheseWords, CallsSubmitAtMostOne, EffectsAreOldOrNew, EffectsLeadThere};
+ghost use Rattle.driven.specs.Laws.{CallsChangeTheseWords, CallsSubmitAtMostOne, ContextsAreOldOrNew, EachStageIsOldOrNew};
+ghost use Rattle.driven.specs.Laws.{EffectsAreOldOrNew, EffectsDoneAreReadInOrder, EffectsLeadThere};
 
 /// Which words of table frames a call changes.
 pub fn calls_change_these_words()
@@ -17,6 +18,19 @@ pub fn calls_submit_at_most_one()
 /// only that what is brought after a barrier reaches memory after what is brought before it.
 pub fn effects_are_old_or_new()
     ensures { EffectsAreOldOrNew }
+{}
+
+/// Whoever does a call's effects in their order keeps the barriers: each page is found as before the call or as after it by a walk that
+/// reads each level no sooner than the level above, however many of the effects are done then, the last of them maybe in part.
+pub fn each_stage_is_old_or_new()
+    ensures order { EffectsDoneAreReadInOrder }
+    ensures found { EachStageIsOldOrNew }
+{}
+
+/// Whatever halves of a context entry have reached memory, a unit reads it as before the call or as after it. It asks only that the half
+/// that is told to go first does.
+pub fn contexts_are_old_or_new()
+    ensures { ContextsAreOldOrNew }
 {}
 
 /// Where all that is brought has reached memory, each word is read as after the call.

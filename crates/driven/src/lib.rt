@@ -13,5 +13,5 @@ mod tests;
 mod untold;
 
 pub use driven::Driven;
-pub use effect::Effect;
+pub use effect::{Effect, Half};
 pub use telling::MOST_EFFECTS;

@@ -37,7 +37,14 @@ fn effects_of_a_page(rt: HostRuntime) -> Result<(), Fail> {
     driven.tell();
     assert_eq!(rt;
         driven.effects(),
-        [Effect::Context { device: 3 }, Effect::Barrier].as_slice()
+        [
+            Effect::Context {
+                device: 3,
+                first: Half::High,
+            },
+            Effect::Barrier,
+        ]
+        .as_slice()
     );
     assert_eq!(rt; driven.map(1, 0x100, 1, 0, 3), Ok(0x1000));
     let lowest = driven.state().table_at(1, 1, 1).expect(&rt, "a table");
@@ -168,7 +175,10 @@ fn a_detach_with_a_flush(rt: HostRuntime) -> Result<(), Fail> {
     assert_eq!(rt;
         driven.effects(),
         [
-            Effect::Context { device: 3 },
+            Effect::Context {
+                device: 3,
+                first: Half::Low,
+            },
             Effect::Barrier,
             CONTEXT_OF_DEVICE_3,
             FIRST_WAIT,

@@ -1,7 +1,9 @@
 //! What a call asks, as C is told it.
 
 ghost use Rattle.std.specs.Prelude.{◌≡◌, ◌≤◌, length};
-ghost use Rattle.vtdm_c.specs.Effects.{AreTold, effect_told, high_told};
+ghost use Rattle.vtdm_c.specs.Effects.{AreTold, effect_told, high_told, number_of_half};
+
+use driven::Half;
 
 /// One thing that a call asks of whoever keeps the memory and the queue that a unit reads. Its kind says which members it uses; the
 /// others are 0.
@@ -21,7 +23,7 @@ impl Effect {
     pub const WORDS: u64 = 1;
     /// What was brought before is in memory before what follows.
     pub const BARRIER: u64 = 2;
-    /// Bring the context entry of device `number` to memory.
+    /// Bring the context entry of device `number` to memory, its word `first` first: 0 the low one, 1 the high one.
     pub const CONTEXT: u64 = 3;
     /// Put the descriptor of the words `low` and `high` into the queue.
     pub const SEND: u64 = 4;
@@ -57,7 +59,10 @@ impl Effect {
                 ..Effect::of_kind(Effect::WORDS, frame.number())
             },
             driven::Effect::Barrier => Effect::of_kind(Effect::BARRIER, 0),
-            driven::Effect::Context { device } => Effect::of_kind(Effect::CONTEXT, device),
+            driven::Effect::Context { device, first } => Effect {
+                first: number_of_half(first),
+                ..Effect::of_kind(Effect::CONTEXT, device)
+            },
             driven::Effect::Send { low, high } => Effect {
                 low,
                 high: high_told(low, high, status),
@@ -65,6 +70,16 @@ impl Effect {
             },
             driven::Effect::Await(number) => Effect::of_kind(Effect::AWAIT, number),
         }
+    }
+}
+
+// The number of a half of a context entry: of its two words, in the order of their addresses.
+fn number_of_half(half: Half) -> u64
+    ensures { result ≡ number_of_half half }
+{
+    match half {
+        Half::Low => 0,
+        Half::High => 1,
     }
 }
 

@@ -30,13 +30,37 @@ pub enum Effect {
     /// What was brought before is in memory before what follows. That is a fence. Where the unit doesn't snoop the processor's caches,
     /// write back what was brought before it; where it asks for its write buffer to be flushed (RWBF), do that.
     Barrier,
-    /// Bring the context entry of this device, which [`Manager::context`](crate::Manager::context) has: the low word last, or first
-    /// where its bit 0 goes.
-    Context(Device),
+    /// Bring the context entry of this device, which [`Manager::context`](crate::Manager::context) has: this word of it, and then the
+    /// other.
+    Context {
+        /// The device.
+        device: Device,
+        /// The word that goes first.
+        first: Half,
+    },
     /// Put this descriptor into the unit's queue, and tell it the new tail.
     Send(Descriptor),
     /// Go on when the unit has written the status of the wait of this number, the low 32 bits of it, to the status address.
     Await(u64),
+}
+
+/// A word of a context entry.
+#[derive(Clone, Copy, Debug, PartialEq, Eq, Hash)]
+pub enum Half {
+    /// Bits 0 to 63. The lowest says whether the entry is present.
+    Low,
+    /// Bits 64 to 127.
+    High,
+}
+
+impl Half {
+    fn of(number: u64) -> Result<Half, Refused> {
+        match number {
+            0 => Ok(Half::Low),
+            1 => Ok(Half::High),
+            _ => Err(Refused::Unknown),
+        }
+    }
 }
 
 impl Effect {
@@ -47,7 +71,9 @@ impl Effect {
                 Ok(Effect::Words { frame: TableFrame::new(number), first, count })
             }
             kinds::EFFECT_BARRIER => Ok(Effect::Barrier),
-            kinds::EFFECT_CONTEXT => Ok(Effect::Context(Device::new(number))),
+            kinds::EFFECT_CONTEXT => {
+                Ok(Effect::Context { device: Device::new(number), first: Half::of(first)? })
+            }
             kinds::EFFECT_SEND => Ok(Effect::Send(Descriptor { low, high })),
             kinds::EFFECT_AWAIT => Ok(Effect::Await(number)),
             _ => Err(Refused::Unknown),
@@ -58,13 +84,13 @@ impl Effect {
 /// What a call asks, in the order in which it is to be done: at most 32 effects. It is a slice of them, and takes no memory.
 ///
 /// ```
-/// use vtdm::{Effect, Frame, HostAddress, Manager, Mode, Width};
+/// use vtdm::{Effect, Frame, Half, HostAddress, Manager, Mode, Width};
 ///
 /// let mut manager = Manager::driven(64, Frame::new(0), false, HostAddress::new(0x8000))?;
 /// let domain = manager.domain(Mode::Strict, Width::W39)?;
 /// assert!(manager.effects()?.is_empty());
 /// manager.attach(3.into(), domain)?;
-/// assert_eq!(*manager.effects()?, [Effect::Context(3.into()), Effect::Barrier]);
+/// assert_eq!(*manager.effects()?, [Effect::Context { device: 3.into(), first: Half::High }, Effect::Barrier]);
 /// # Ok::<(), vtdm::Refused>(())
 /// ```
 #[derive(Clone)]
@@ -132,7 +158,7 @@ mod tests {
     use super::*;
 
     const TOLD: ffi::Effect =
-        ffi::Effect { kind: 0, number: 3, first: 5, count: 7, low: 11, high: 13 };
+        ffi::Effect { kind: 0, number: 3, first: 1, count: 7, low: 11, high: 13 };
 
     /// What is told by numbers of these kinds.
     fn told(given: &[u64]) -> [ffi::Effect; PLACES] {
@@ -153,9 +179,9 @@ mod tests {
             kinds::EFFECT_AWAIT,
         ];
         let wanted = [
-            Effect::Words { frame: TableFrame::new(3), first: 5, count: 7 },
+            Effect::Words { frame: TableFrame::new(3), first: 1, count: 7 },
             Effect::Barrier,
-            Effect::Context(Device::new(3)),
+            Effect::Context { device: Device::new(3), first: Half::High },
             Effect::Send(Descriptor { low: 11, high: 13 }),
             Effect::Await(3),
         ];
@@ -169,6 +195,17 @@ mod tests {
     fn a_kind_without_a_name_is_told() {
         for kind in [0, 6, u64::MAX] {
             assert_eq!(Effects::of(&told(&[kind]), 1), Err(Refused::Unknown));
+        }
+    }
+
+    #[test]
+    fn a_context_entry_has_two_words() {
+        let mut places = told(&[kinds::EFFECT_CONTEXT]);
+        for (first, half) in [(0, Ok(Half::Low)), (1, Ok(Half::High)), (2, Err(Refused::Unknown))] {
+            places[0].first = first;
+            let effects = Effects::of(&places, 1);
+            let wanted = half.map(|first| Effect::Context { device: Device::new(3), first });
+            assert_eq!(effects.map(|effects| effects[0]), wanted);
         }
     }
 

@@ -103,7 +103,7 @@ pub use choices::{
     Access, Cache, Context, Descriptor, DomainTotals, Mode, Progress, Reaped, Totals, Unmapped,
     Whim, Width,
 };
-pub use effects::{Effect, Effects};
+pub use effects::{Effect, Effects, Half};
 pub use manager::Manager;
 pub use numbers::{
     Address, Device, Devices, Domain, Frame, HostAddress, Order, Page, Pages, Segment, TableFrame,

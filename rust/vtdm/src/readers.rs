@@ -167,7 +167,7 @@ impl Manager {
     ///             }
     ///         }
     ///         Effect::Barrier => (), // one thread sees its own stores in order
-    ///         Effect::Context(device) => {
+    ///         Effect::Context { device, .. } => { // which half goes first no other thread sees
     ///             let entry = manager.context(device)?;
     ///             contexts[device.get() as usize] = (entry.low, entry.high);
     ///         }

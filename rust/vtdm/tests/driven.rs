@@ -10,8 +10,8 @@ use play::Play;
 use unit::{STATUS, TABLE_FRAMES, TABLE_WORDS, sent};
 use vtdm::limits::{DEVICES, FRAMES_END, MOST_RECORDS};
 use vtdm::{
-    Access, Address, Descriptor, Device, Domain, Effect, Frame, HostAddress, Manager, Mode, Order,
-    Pages, Progress, Reaped, Refused, Rights, Segment, TableFrame, Unmapped, Whim, Width,
+    Access, Address, Descriptor, Device, Domain, Effect, Frame, Half, HostAddress, Manager, Mode,
+    Order, Pages, Progress, Reaped, Refused, Rights, Segment, TableFrame, Unmapped, Whim, Width,
 };
 
 const DEVICE: Device = Device::new(3);
@@ -191,11 +191,11 @@ fn a_full_list_is_flushed_before_words_are_brought() {
 #[test]
 fn devices_ask_for_their_context_entries() {
     let (mut manager, domain) = begun(Mode::Lazy, Width::W48);
-    let entry = [Effect::Context(DEVICE), Effect::Barrier];
+    let entry = |first| [Effect::Context { device: DEVICE, first }, Effect::Barrier];
     manager.attach(DEVICE, domain).unwrap();
-    assert_eq!(asked(&mut manager), entry);
+    assert_eq!(asked(&mut manager), entry(Half::High));
     manager.detach(DEVICE).unwrap();
-    let detached = [&entry[..], &sent_last(&manager)].concat();
+    let detached = [&entry(Half::Low)[..], &sent_last(&manager)].concat();
     assert_eq!(asked(&mut manager), detached);
     assert_eq!(sent(&manager, 1).low, 0x1_0031 | DEVICE.get() << 35);
 }
@@ -211,7 +211,7 @@ fn detach_all_asks_what_a_detach_and_a_flush_do() {
     }
     assert_eq!(manager.detach_all(DEVICE), Ok(2));
     let wanted = [
-        Effect::Context(DEVICE),
+        Effect::Context { device: DEVICE, first: Half::Low },
         Effect::Barrier,
         Effect::Send(sent(&manager, 3)),
         Effect::Send(sent(&manager, 2)),
@@ -299,7 +299,8 @@ fn the_next_call_forgets_what_was_not_taken() {
     let (mut manager, domain) = begun(Mode::Strict, Width::W39);
     map(&mut manager, domain, 0x100, 1, Order::PAGE);
     manager.attach(DEVICE, domain).unwrap();
-    assert_eq!(asked(&mut manager), [Effect::Context(DEVICE), Effect::Barrier]);
+    let entry = Effect::Context { device: DEVICE, first: Half::High };
+    assert_eq!(asked(&mut manager), [entry, Effect::Barrier]);
     let at = map(&mut manager, domain, 0x100, 1, Order::PAGE);
     assert!(manager.dma(DEVICE, at, Access::Read, Whim::CACHED).is_ok());
     assert_eq!(asked(&mut manager), []);

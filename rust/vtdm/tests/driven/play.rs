@@ -84,7 +84,7 @@ impl Play {
         let kind = match effect {
             Effect::Words { .. } => 0,
             Effect::Barrier => 1,
-            Effect::Context(_) => 2,
+            Effect::Context { .. } => 2,
             Effect::Send(_) => 3,
             Effect::Await(_) => 4,
         };

@@ -2,7 +2,7 @@
 
 use std::collections::VecDeque;
 use vtdm::limits::DEVICES;
-use vtdm::{Context, Descriptor, Device, Effect, HostAddress, Manager, TableFrame};
+use vtdm::{Context, Descriptor, Device, Effect, Half, HostAddress, Manager, TableFrame};
 
 /// Where its waits write their status.
 pub(crate) const STATUS: HostAddress = HostAddress::new(0x8004);
@@ -62,8 +62,11 @@ impl Unit {
                 }
             }
             Effect::Barrier => (),
-            Effect::Context(device) => {
-                self.contexts[device.get() as usize] = manager.context(device).unwrap();
+            Effect::Context { device, first } => {
+                let entry = manager.context(device).unwrap();
+                // What is brought last makes the entry present; a unit looks at no more where it isn't.
+                assert_eq!(first, if entry.low & 1 == 1 { Half::High } else { Half::Low });
+                self.contexts[device.get() as usize] = entry;
             }
             Effect::Send(descriptor) => self.queue.push_back(descriptor),
             Effect::Await(number) => {

@@ -31,15 +31,16 @@ returns-clause-effects c =
     let sound : IsSound c.args.state.now = record { of_world = c.keeps.ensures.of_world; places = c.keeps.ensures.places } in
     let (more, items, sent) = c.send.ensures in
     let old : List Effect = c.args.effects.now.items in
-    let told : List Effect = entry_told c.args.device in (
+    let told : List Effect = entry_told c.args.device Low in (
       told ++ more,
       items ∙ ap (λ xs. xs ++ more) (c.push-2.ensures.items ∙ ap (λ xs. xs ++ Barrier ∷ []) c.push.ensures.items
-          ∙ append_assoc old (Context c.args.device ∷ []) (Barrier ∷ [])) ∙ append_assoc old told more,
+          ∙ append_assoc old (Context c.args.device Low ∷ []) (Barrier ∷ [])) ∙ append_assoc old told more,
       omega (arith, few_sent c.detach.new.self c.waits-waits.result true more sent),
       asks c.args.state.now c.detach.new.self (calls.Detach c.args.device) Done c.keeps.ensures.tickets c.in_ok-detach.ensures
           c.waits-waits.result true told more (told ++ more)
           (one_for_entry c.args.state.now c.detach.new.self (calls.Detach c.args.device) Done sound c.keeps.ensures.tickets
-          c.in_ok-detach.ensures (λ f k no. no) c.args.device
+          c.in_ok-detach.ensures (λ f k no. no) c.args.device Low
+          (detached_half c.args.state.now c.detach.new.self c.args.device c.in_ok-detach.ensures.becomes)
           (rows c.args.state.now c.detach.new.self (calls.Detach c.args.device) Done c.in_ok-detach.ensures.becomes))
           refl c.waits-waits.ensures refl sent tt,
     )

@@ -4,8 +4,8 @@ use Rattle.std.proofs.lemmas.List.Elements.{All-push}
 use Rattle.tables.proofs.sums.OverSpans.{div_mono}
 use Rattle.tables.specs.declared.entries.TheConstants.{TABLE_ENTRIES}
 use Rattle.engine.specs.Domains.{domain_at}
-use Rattle.driven.specs.Effects.{IsForMemory}
-use Rattle.driven.proofs.Brought.{none_for_memory}
+use Rattle.driven.specs.Effects.{IsForTables}
+use Rattle.driven.proofs.Brought.{none_for_tables}
 use Rattle.driven.proofs.Levels.{told_none, told_nothing, told_part}
 use Rattle.driven.proofs.telling.bring_level.Goals as goal
 use Rattle.driven.proofs.telling.bring_level.Goals.{in-Some, in_default}
@@ -16,7 +16,7 @@ loop-table-init c = (
   (
     sym (append-nil c.args.effects.now.items),
     omega arith,
-    none_for_memory,
+    none_for_tables,
     told_none c.args.state.now.pool (domain_at c.args.state.now.domains c.args.domain) c.args.level c.args.first c.args.last
         c.span_of-width.result c.requires.level.0 c.span_of-width.ensures.exact,
   ),
@@ -47,7 +47,7 @@ loop-table-preserved c =
           ap (λ v. v.items) w.effects-is ∙ w.push.ensures.items ∙ ap (λ xs. xs ++ w.part.result ∷ []) items
               ∙ append_assoc c.args.effects.now.items more (w.part.result ∷ []),
           omega (arith, few, length-append more (w.part.result ∷ [])),
-          All-push IsForMemory more w.part.result for_memory w.part.ensures.0,
+          All-push IsForTables more w.part.result for_memory w.part.ensures.0,
           told_part c.args.state.now.pool (domain_at c.args.state.now.domains c.args.domain) c.args.level c.args.first c.args.last
               c.span_of-width.result c.requires.level.0 c.span_of-width.ensures.exact more c.loop-table.table c.max-from.result
               c.min-to.result told b.0 b.1 b.2 b.3 w.in-Some.frame w.part.result (sym c.table_at.ensures ∙ w.in-Some.is) w.part.ensures,

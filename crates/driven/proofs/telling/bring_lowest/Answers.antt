@@ -6,7 +6,7 @@ use Rattle.std.proofs.lemmas.List.{append_assoc, length-append}
 use Rattle.std.proofs.lemmas.List.Elements.{All-append}
 use Rattle.engine.specs.Domains.{domain_at}
 use Rattle.engine.specs.Walkable.{table_at}
-use Rattle.driven.specs.Effects.{IsForMemory}
+use Rattle.driven.specs.Effects.{IsForTables}
 use Rattle.driven.proofs.Spans.{lowest_more, same_table, stay_more, told_more}
 use Rattle.driven.proofs.telling.bring_lowest.Goals as goal
 use Rattle.driven.proofs.telling.bring_lowest.Goals.{else-not-is_kept, then-not-is_kept}
@@ -45,7 +45,7 @@ loop-span-preserved c =
         second ∙ ap (λ xs. xs ++ next) items ∙ append_assoc c.args.effects.now.items more next,
         omega (arith, few, two, length-append more next),
         omega (arith, begun),
-        All-append IsForMemory more next for_memory brings.for_memory,
+        All-append IsForTables more next for_memory brings.for_memory,
         lowest_more c.args.state.now.pool (domain_at c.args.state.now.domains c.args.domain) c.args.first c.args.last
             c.args.before.now.items
             more c.loop-span.span c.max-from.result c.min-to.result c.index-as_slice-span.result c.table_after-now.result next lowest stood

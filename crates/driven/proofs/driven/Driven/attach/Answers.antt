@@ -23,11 +23,13 @@ returns-clause-effects c =
     rw (← c.self.view_is, ← c.deref_mut-state.ensures.value, c.push-2.ensures.items, c.push.ensures.items, c.forget.ensures.told)
     (record {
       quiet = tt;
-      brought = entry_told c.args.device;
+      brought = entry_told c.args.device High;
       sent = [];
       brings = one_for_entry c.deref_mut-state.result.now c.attach.new.self (calls.Attach c.args.device c.args.domain) (replies.Done) sound
           c.keeps.ensures.tickets c.in_ok-attach.ensures
-          (λ f k no. no) c.args.device (rows c.deref_mut-state.result.now c.attach.new.self (calls.Attach c.args.device c.args.domain)
+          (λ f k no. no) c.args.device High
+          (attached_half c.deref_mut-state.result.now c.attach.new.self c.args.device c.args.domain c.in_ok-attach.ensures.becomes)
+          (rows c.deref_mut-state.result.now c.attach.new.self (calls.Attach c.args.device c.args.domain)
           (replies.Done) c.in_ok-attach.ensures.becomes);
       sends = sends_none c.deref_mut-state.result.now c.attach.new.self (calls.Attach c.args.device c.args.domain) (replies.Done) sound
           c.keeps.ensures.tickets c.in_ok-attach.ensures
