@@ -1,4 +1,9 @@
 -- What a call asks, from what is told of it.
+use Rattle.std.proofs.Common.{ap, slice_get}
+use Rattle.std.proofs.lemmas.List.Elements.{All-push}
+use Rattle.driven.specs.Effects.{first_half}
+use Rattle.driven.specs.declared.effect.Half.{Half}
+use Rattle.driven.proofs.Brought.{for_memory}
 use Rattle.std.proofs.Common.{◌≡◌, ◌⊎◌, inl, inr, ℕ, Bool, Option, List, [], ◌∷◌, refl, subst, slice_set, sym}
 use Rattle.std.specs.List.{All}
 use Rattle.std.proofs.lemmas.List.Elements.{All-append}

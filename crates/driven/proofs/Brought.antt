@@ -1,4 +1,7 @@
 -- What lists of effects bring.
+use Rattle.engine.specs.State.{State}
+use Rattle.driven.specs.declared.effect.Effect.TheVariants.{Await, Context, Send}
+use Rattle.driven.specs.Effects.{IsForMemory, IsForTables}
 use Rattle.std.proofs.Common.{◌≡◌, ◌≢◌, ◌⊎◌, inl, inr, ⊎_elim, ℕ, ◌+◌, ◌-◌, ◌*◌, ◌/◌, ◌%◌}
 use Rattle.std.proofs.Common.{◌<◌, ◌≤◌, List, [], ◌∷◌, ◌++◌, Option, Some, None, refl, sym}
 use Rattle.std.proofs.Common.{ap, subst, ◌∙◌, arith, Bool, true, false}

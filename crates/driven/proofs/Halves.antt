@@ -1,4 +1,28 @@
 -- What a unit reads of a context entry of which one half has reached memory.
+use Rattle.std.proofs.Common.{◌≡◌, ◌⊎◌, inl, inr, ℕ, zero, suc, ◌%◌, Bool, true, false, if◌then◌else◌, Option, None, Some, List, [], ◌∷◌}
+use Rattle.std.proofs.Common.{refl, sym, ap, subst, ◌∙◌, slice_get, slice_set, IsSome}
+use Rattle.std.proofs.lemmas.Option.{none-some, same_Some}
+use Rattle.dmatypes.proofs.histories.Maps.{same_or_not}
+use Rattle.dmatypes.specs.Conditions.{Stands}
+use Rattle.dmatypes.specs.Step.{IsStep}
+use Rattle.dmatypes.specs.World.{World}
+use Rattle.dmatypes.specs.declared.call.Call.{Call}
+use Rattle.dmatypes.specs.declared.call.Call.TheVariants as calls
+use Rattle.dmatypes.specs.declared.reply.Reply.{Reply}
+use Rattle.dmatypes.specs.declared.reply.Reply.TheVariants.{Done}
+use Rattle.vtdbits.specs.Context.{Spells, attached}
+use Rattle.vtdbits.specs.declared.context.ContextEntry.{ContextEntry}
+use Rattle.vtdbits.specs.declared.context.ContextEntry.TheVariants.{Absent, Present}
+use Rattle.vtdbits.specs.declared.words.Words.{Words}
+use Rattle.engine.specs.State.{Becomes, State}
+use Rattle.engine.specs.Steps.{Does}
+use Rattle.engine.proofs.lists.Places.{get_set_other, is_some}
+use Rattle.quiet.specs.Quiet.{IsSound}
+use Rattle.driven.specs.Effects.{first_half}
+use Rattle.driven.specs.Laws.{ContextsAreOldOrNew, IsReadAs, IsReadFirst, halves_read}
+use Rattle.driven.specs.declared.effect.Half.{Half}
+use Rattle.driven.specs.declared.effect.Half.TheVariants.{High, Low}
+use Rattle.driven.proofs.Rows.{rows}
 
 -- ---- how an entry changes
 
@@ -122,18 +146,25 @@ module _ (old new : Words) (reached : Half → Bool) where
       by false true is is' =
           inl (inl (read_is false true is is' ∙ ap (λ n. record { low = old.low; high = n }) (ap (λ (w : Words). w.high) same)))
 
+  spelled_alike : (e : ContextEntry) → Spells old e → Spells new e → new ≡ old
+  spelled_alike Absent was is =
+      ap (λ n. record { low = n; high = new.high }) (is.0 ∙ sym was.0) ∙ ap (λ n. record { low = old.low; high = n }) (is.1 ∙ sym was.1)
+  spelled_alike (Present root width domain) was is =
+      ap (λ n. record { low = n; high = new.high }) (is.2 ∙ sym was.2) ∙ ap (λ n. record { low = old.low; high = n }) (is.3 ∙ sym was.3)
+
   -- where both are spelled
   spelled : (e e' : ContextEntry) → Spells old e → Spells new e' → (e' ≡ e) ⊎ ((attached (Some e) ≡ None) ⊎ (attached (Some e') ≡ None))
       → IsReadFirst (first_half (Some e')) reached → Found
   spelled Absent Absent was is goes first = goes_away is.0 first
   spelled (Present root width domain) Absent was is goes first = goes_away is.0 first
   spelled Absent (Present root width domain) was is goes first = comes was.0 first
-  spelled (Present root width domain) (Present root' width' domain') was is (inl same) first = same_words ?
+  spelled (Present root width domain) (Present root' width' domain') was is (inl same) first =
+      same_words (spelled_alike (Present root width domain) was (subst (λ e. Spells new e) same is))
   spelled (Present root width domain) (Present root' width' domain') was is (inr (inl none)) first = absurd (none-some domain (sym none))
   spelled (Present root width domain) (Present root' width' domain') was is (inr (inr none)) first = absurd (none-some domain' (sym none))
 
 pub contexts_old_or_new : ContextsAreOldOrNew
-contexts_old_or_new m t call reply device old new reached sound does (e, (at, was)) (e', (at', is)) first =
+contexts_old_or_new m t call reply device old new reached sound does (e, at, was) (e', at', is) first =
     spelled old new reached e e' was is
     (elim (goes m t device call reply sound does does.becomes) [
       | inl same ↦ inl (same_Some e' e (sym at' ∙ same ∙ at))

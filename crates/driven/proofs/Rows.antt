@@ -1,4 +1,10 @@
 -- What becomes of the row of contexts.
+use Rattle.std.proofs.Common.{ℕ, zero, suc, Some, List, [], ◌∷◌, refl, sym, slice_get}
+use Rattle.std.proofs.lemmas.Option.{none-some}
+use Rattle.dmatypes.specs.declared.width.Width.{Width}
+use Rattle.vtdbits.specs.declared.context.ContextEntry.TheVariants.{Absent, Present}
+use Rattle.driven.specs.Effects.{first_half}
+use Rattle.driven.specs.declared.effect.Half.TheVariants.{High, Low}
 use Rattle.std.proofs.Common.{◌≡◌, ◌⊎◌, inl, inr, ℕ, Bool, true, false, ap, ◌∙◌, slice_set}
 use Rattle.dmatypes.specs.Page.{Range, range_at}
 use Rattle.dmatypes.specs.declared.call.Call.{Call}

@@ -1,13 +1,19 @@
 -- Effects that are done one after the other.
+use Rattle.std.proofs.Common.{◌≡◌, inl, inr, ℕ, zero, suc, ◌≤◌, List, [], ◌∷◌, ◌++◌, length, take, subst, sym, arith}
+use Rattle.driven.specs.declared.effect.Effect.{Effect}
+use Rattle.driven.specs.declared.effect.Effect.TheVariants.{Barrier}
+use Rattle.driven.specs.Effects.{Brings, IsBrought}
+use Rattle.driven.specs.Laws.{EachStageIsOldOrNew, EffectsDoneAreReadInOrder}
+use Rattle.driven.proofs.Moments.{effects_old_or_new}
 
 -- what some of the effects bring, and those up to a barrier don't, is brought behind the barrier
 behind : (first rest : List Effect) (n f k : ℕ) → (IsBrought first f k → ⊥)
     → IsBrought (take (suc n) (first ++ Barrier ∷ rest)) f k → suc (length first) ≤ n
 behind [] rest zero f k none (e, (inl same, brings)) = absurd (subst (λ x. Brings x f k) same brings)
-behind [] rest zero f k none (e, (inr no, brings)) = absurd no
+behind [] rest zero f k none (e, (inr never, brings)) = absurd never
 behind [] rest (suc n) f k none told = omega arith
 behind (x ∷ xs) rest zero f k none (e, (inl same, brings)) = absurd (none (e, (inl same, brings)))
-behind (x ∷ xs) rest zero f k none (e, (inr no, brings)) = absurd no
+behind (x ∷ xs) rest zero f k none (e, (inr never, brings)) = absurd never
 behind (x ∷ xs) rest (suc n) f k none (e, (inl same, brings)) = absurd (none (e, (inl same, brings)))
 behind (x ∷ xs) rest (suc n) f k none (e, (inr tail, brings)) =
     let past : suc (length xs) ≤ n = behind xs rest n f k (λ told. none (told.0, (inr told.1.0, told.1.1))) (e, (tail, brings)) in
@@ -15,7 +21,7 @@ behind (x ∷ xs) rest (suc n) f k none (e, (inr tail, brings)) =
 
 -- where these were done, all is brought that they bring
 all_brought : (first rest : List Effect) (n f k : ℕ) → length first ≤ n → IsBrought first f k → IsBrought (take n (first ++ rest)) f k
-all_brought [] rest n f k few (e, (no, brings)) = absurd no
+all_brought [] rest n f k few (e, (never, brings)) = absurd never
 all_brought (x ∷ xs) rest zero f k few told = absurd (omega (arith, few))
 all_brought (x ∷ xs) rest (suc n) f k few (e, (inl same, brings)) = (e, (inl same, brings))
 all_brought (x ∷ xs) rest (suc n) f k few (e, (inr tail, brings)) =

@@ -1,4 +1,6 @@
 -- What is told of a call that was done.
+use Rattle.driven.specs.Effects.{first_half}
+use Rattle.driven.proofs.Brought.{for_memory}
 use Rattle.std.proofs.Common.{◌≡◌, ◌≢◌, inl, inr, ℕ, ◌+◌, ◌<◌, ◌≤◌, Bool, true, false, List, [], ◌∷◌}
 use Rattle.std.proofs.Common.{length, Option, Some, None, refl, sym, ap, subst, ◌∙◌, arith, slice_get, slice_set}
 use Rattle.std.proofs.lemmas.Option.{same_Some}

@@ -1,4 +1,5 @@
 -- What is told of a call that changes tables brings all that it changed.
+use Rattle.driven.proofs.Brought.{for_memory}
 use Rattle.std.proofs.Common.{◌≡◌, ◌≢◌, inl, inr, ⊎_elim, ℕ, suc, ◌+◌, ◌-◌, ◌/◌, ◌<◌, ◌≤◌, List, [], ◌∷◌, ◌++◌, Option, Some, refl, sym, ap}
 use Rattle.std.proofs.Common.{subst, ◌∙◌, arith, Bool, false, length}
 use Rattle.std.proofs.lemmas.Bool.{cases_lt}

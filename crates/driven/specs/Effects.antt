@@ -10,6 +10,8 @@ use Rattle.dmatypes.specs.declared.refusal.Refusal.{Refusal}
 use Rattle.dmatypes.specs.declared.reply.Reply.{Reply}
 use Rattle.dmatypes.specs.declared.reply.Reply.TheVariants.{Done, Flushed, Refused}
 use Rattle.vtdbits.specs.Context.{attached}
+use Rattle.vtdbits.specs.declared.context.ContextEntry.{ContextEntry}
+use Rattle.vtdbits.specs.declared.context.ContextEntry.TheVariants.{Absent}
 use Rattle.vtdbits.specs.Descriptor.{descriptor_of}
 use Rattle.vtdbits.specs.declared.descriptor.Descriptor.{Descriptor}
 use Rattle.vtdbits.specs.declared.descriptor.Descriptor.TheVariants.{Wait}
@@ -21,6 +23,8 @@ use Rattle.engine.specs.Domains.{Domain, domain_at}
 use Rattle.engine.specs.Ending.{status_of}
 use Rattle.engine.specs.State.{State}
 use Rattle.engine.specs.Steps.{Does}
+use Rattle.driven.specs.declared.effect.Half.{Half}
+use Rattle.driven.specs.declared.effect.Half.TheVariants.{High, Low}
 use Rattle.driven.specs.declared.effect.Effect.{Effect}
 use Rattle.driven.specs.declared.effect.Effect.TheVariants.{Await, Barrier, Context, Send, Words}
 

@@ -1,6 +1,7 @@
 -- Which words of table frames each call changes, what it submits, and what a walk finds while its effects reach memory.
-use Rattle.std.specs.Prelude.{◌≡◌, ◌≢◌, ◌⊎◌, ℕ, suc, ◌+◌, ◌/◌, ◌<◌, true, List, ◌∷◌, ◌++◌, Some}
+use Rattle.std.specs.Prelude.{◌≡◌, ◌≢◌, ◌⊎◌, ℕ, suc, ◌+◌, ◌/◌, ◌%◌, ◌<◌, Bool, true, if◌then◌else◌, List, ◌∷◌, ◌++◌, Some, slice_get, take}
 use Rattle.vtdbits.specs.declared.descriptor.Descriptor.{Descriptor}
+use Rattle.vtdbits.specs.declared.words.Words.{Words}
 use Rattle.queue.specs.Ring.{submitted_in}
 use Rattle.dmatypes.specs.Conditions.{total_pages}
 use Rattle.dmatypes.specs.Page.{levels}
@@ -11,15 +12,18 @@ use Rattle.dmatypes.specs.declared.reply.Reply.{Reply}
 use Rattle.dmatypes.specs.declared.reply.Reply.TheVariants.{Done, Mapped, Unmapped}
 use Rattle.tables.specs.declared.entries.TheConstants.{TABLE_ENTRIES}
 use Rattle.tables.specs.Pool.{word}
-use Rattle.moments.specs.Moments.{IsOldOrNew, Reached, word_read}
+use Rattle.moments.specs.Moments.{GoesDown, IsOldOrNew, Reached, word_read}
 use Rattle.engine.specs.Domains.{Domain, domain_at}
 use Rattle.engine.specs.State.{State}
 use Rattle.engine.specs.Steps.{Does}
 use Rattle.engine.specs.Tickets.{KeepsTickets}
+use Rattle.engine.specs.Walkable.{SpellsContext}
 use Rattle.quiet.specs.Quiet.{IsSound}
+use Rattle.driven.specs.declared.effect.Half.{Half}
+use Rattle.driven.specs.declared.effect.Half.TheVariants.{High, Low}
 use Rattle.driven.specs.declared.effect.Effect.{Effect}
 use Rattle.driven.specs.declared.effect.Effect.TheVariants.{Barrier}
-use Rattle.driven.specs.Effects.{AreEffects, IsBrought, SendsWith}
+use Rattle.driven.specs.Effects.{AreEffects, IsBrought, SendsWith, first_half}
 use Rattle.driven.specs.Walks.{IsExchanged, IsOnWalks}
 
 -- the word lies on the way of one of so many pages of the domain, from a first one on, after the call

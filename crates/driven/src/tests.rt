@@ -2,7 +2,7 @@
 
 ghost use Rattle.std.specs.Prelude.{◌+◌, ◌<◌, ◌≤◌};
 
-use crate::{Driven, Effect};
+use crate::{Driven, Effect, Half};
 use dmatypes::{Access, Cache, Frame, Mode, Progress, Refusal, Whim, Width};
 use engine::Unmapped;
 use std::test::Fail;

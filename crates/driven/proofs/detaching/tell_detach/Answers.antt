@@ -1,4 +1,6 @@
 use Rattle.std.proofs.Common.{List, [], ◌∷◌, ◌++◌, ◌∙◌, true, refl, sym, ap, arith}
+use Rattle.driven.specs.declared.effect.Half.TheVariants.{Low}
+use Rattle.driven.proofs.Rows.{detached_half}
 use Rattle.std.proofs.lemmas.List.{append-nil, append_assoc}
 use Rattle.std.proofs.lemmas.Result.{err_from_is_err_and}
 use Rattle.dmatypes.specs.declared.call.Call.TheVariants as calls

@@ -1,4 +1,6 @@
 use Rattle.std.proofs.Common.{[], refl}
+use Rattle.driven.specs.declared.effect.Half.TheVariants.{High}
+use Rattle.driven.proofs.Rows.{attached_half}
 use Rattle.std.proofs.lemmas.Result.{err_from_is_err_and}
 use Rattle.dmatypes.specs.declared.call.Call.TheVariants as calls
 use Rattle.dmatypes.specs.declared.reply.Reply.TheVariants as replies
