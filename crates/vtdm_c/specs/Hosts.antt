@@ -1,6 +1,6 @@
 -- What it means that the table frames begin at a base: numbers of host frames are judged as these are and lead back to them, and a unit that
 -- walks the words which C brings finds what the manager's own walk finds.
-use Rattle.std.specs.Prelude.{◌≡◌, ◌↔◌, ℕ, zero, suc, ◌+◌, ◌*◌, ◌%◌, ◌<◌, ◌≤◌, Option, None, Some}
+use Rattle.std.specs.Prelude.{◌≡◌, ◌↔◌, ℕ, ◌+◌, ◌*◌, ◌%◌, ◌<◌, ◌≤◌, Option, None, Some}
 use Rattle.dmatypes.specs.World.{Target}
 use Rattle.dmatypes.specs.declared.page.TheConstants.{FRAMES_END, PAGE_BYTES, SPAN_PAGES}
 use Rattle.dmatypes.specs.declared.width.Width.{Width}
@@ -10,10 +10,9 @@ use Rattle.vtdbits.specs.Entry.{Spells, look}
 use Rattle.vtdbits.specs.Translation.{target}
 use Rattle.vtdbits.specs.declared.context.ContextEntry.{ContextEntry}
 use Rattle.vtdbits.specs.declared.entry.SsEntry.{SsEntry}
-use Rattle.vtdbits.specs.declared.entry.SsEntry.TheVariants.{Table}
 use Rattle.vtdbits.specs.declared.words.Words.{Words}
 use Rattle.tables.specs.declared.entries.TheConstants.{TABLE_ENTRIES}
-use Rattle.tables.specs.Tree.{LeafEntry, Memory, index_in, leaf_from, root_states, table_from}
+use Rattle.tables.specs.Tree.{LeafEntry, Memory, leaf_from, root_states, table_from}
 use Rattle.vtdm_c.specs.Base.{IsBase, address_of, context_of, entry_of, frame_of, number_of, word_of, words_of}
 
 -- ---- frames of a map
@@ -87,10 +86,8 @@ abbrev pub seen : (ℕ → ℕ → ℕ → ℕ) → Memory
 seen words level table index = look level (words level table index)
 
 -- each table that a walk passes is a table frame
-unfoldable pub PassesTableFrames : ℕ → Memory → ℕ → ℕ → ℕ → Type 0
-PassesTableFrames frames m zero table page = Unit {0}
-PassesTableFrames frames m (suc l) table page =
-    (table < frames) × ((c : ℕ) → m (suc l) table (index_in l page) ≡ Table c → PassesTableFrames frames m l c page)
+abbrev pub PassesTableFrames : ℕ → Memory → ℕ → ℕ → ℕ → Type 0
+PassesTableFrames frames m level table page = (w f : ℕ) → table_from m level table page w ≡ Some f → f < frames
 
 abbrev pub leaf_of : ℕ → Option LeafEntry → Option LeafEntry
 leaf_of base None = None
@@ -109,7 +106,7 @@ target_of base (Some t) = Some (target (frame_of base t.frame) t.rights)
 abbrev pub WalksFindHostFrames : Type 0
 WalksFindHostFrames =
     (frames base : ℕ) (words hosted : ℕ → ℕ → ℕ → ℕ) (level table page : ℕ) → IsBase frames base
-    → AreHosted frames base words hosted → table < frames → PassesTableFrames frames (seen words) level table page
+    → AreHosted frames base words hosted → PassesTableFrames frames (seen words) level table page
     → (leaf_from (seen hosted) level (base + table) page ≡ leaf_of base (leaf_from (seen words) level table page))
     × ((w : ℕ) → table_from (seen hosted) level (base + table) page w ≡ table_of base (table_from (seen words) level table page w))
 
@@ -117,5 +114,5 @@ WalksFindHostFrames =
 abbrev pub PagesAreFoundInHostFrames : Type 0
 PagesAreFoundInHostFrames =
     (frames base : ℕ) (words hosted : ℕ → ℕ → ℕ → ℕ) (width : Width) (root page : ℕ) → IsBase frames base
-    → AreHosted frames base words hosted → root < frames → PassesTableFrames frames (seen words) (levels width) root page
+    → AreHosted frames base words hosted → PassesTableFrames frames (seen words) (levels width) root page
     → root_states (seen hosted) width (base + root) page ≡ target_of base (root_states (seen words) width root page)

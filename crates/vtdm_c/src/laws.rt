@@ -7,6 +7,7 @@ ghost use Rattle.dmatypes.specs.declared.refusal.Refusal.{Refusal};
 ghost use Rattle.dmatypes.specs.declared.refusal.Refusal.TheVariants as refusals;
 ghost use Rattle.vtdm_c.specs.Hosts.{ContextsNameHostFrames, FramesAreJudgedAlike, FramesAreReached, LeavesStayAligned, NothingMovesAt0};
 ghost use Rattle.vtdm_c.specs.Hosts.{PagesAreFoundInHostFrames, TablesBeginThere, WalksFindHostFrames, WordsNameHostFrames};
+ghost use Rattle.vtdm_c.specs.Units.{UnitsFindHostFrames};
 ghost use Rattle.vtdm_c.specs.declared.answer.TheConstants.Answer.{ABSENT, BAD_ADDRESS, BAD_BASE, BAD_CACHE, BAD_FRAMES, FAULTS};
 ghost use Rattle.vtdm_c.specs.declared.answer.TheConstants.Answer.{FEW_PLACES, MANY_SEGMENTS, NOT_ATTACHED, NOT_DRIVEN, NO_DESCRIPTOR};
 ghost use Rattle.vtdm_c.specs.declared.answer.TheConstants.Answer.{NO_DEVICE, NO_DOMAIN, NO_MEMORY, NO_WAIT, NO_WORD, OK, PENDING, PRESENT};
@@ -51,4 +52,11 @@ pub fn words_name_host_frames()
 pub fn walks_find_host_frames()
     ensures walks { WalksFindHostFrames }
     ensures pages { PagesAreFoundInHostFrames }
+{}
+
+/// Whatever of a call's effects has reached host memory when a unit reads it there, the unit finds each page as before the call or as after
+/// it, by its host frame. So it does each leaf and each table on its way, which it may cache. It asks only that host memory has the words
+/// as C brings them, and that what is brought after a barrier reaches it after what is brought before it.
+pub fn units_find_host_frames()
+    ensures { UnitsFindHostFrames }
 {}
