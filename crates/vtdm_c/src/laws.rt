@@ -7,6 +7,7 @@ ghost use Rattle.dmatypes.specs.declared.refusal.Refusal.{Refusal};
 ghost use Rattle.dmatypes.specs.declared.refusal.Refusal.TheVariants as refusals;
 ghost use Rattle.vtdm_c.specs.Hosts.{ContextsNameHostFrames, FramesAreJudgedAlike, FramesAreReached, LeavesStayAligned, NothingMovesAt0};
 ghost use Rattle.vtdm_c.specs.Hosts.{PagesAreFoundInHostFrames, TablesBeginThere, WalksFindHostFrames, WordsNameHostFrames};
+ghost use Rattle.vtdm_c.specs.Sound.{CallsKeepSessionsSound, CreationsAreSound, SessionsAreFoundOldOrNew};
 ghost use Rattle.vtdm_c.specs.Units.{UnitsFindHostFrames};
 ghost use Rattle.vtdm_c.specs.declared.answer.TheConstants.Answer.{ABSENT, BAD_ADDRESS, BAD_BASE, BAD_CACHE, BAD_FRAMES, FAULTS};
 ghost use Rattle.vtdm_c.specs.declared.answer.TheConstants.Answer.{FEW_PLACES, MANY_SEGMENTS, NOT_ATTACHED, NOT_DRIVEN, NO_DESCRIPTOR};
@@ -59,4 +60,13 @@ pub fn walks_find_host_frames()
 /// as C brings them, and that what is brought after a barrier reaches it after what is brought before it.
 pub fn units_find_host_frames()
     ensures { UnitsFindHostFrames }
+{}
+
+/// A manager that C makes is one of which the laws speak, and stays so whatever calls are made. So while C brings what a call of it asks, a
+/// unit finds each page as before the call or as after it. Beside what the call promises that asks only what C owes: that it keeps barriers,
+/// and that host memory has the words.
+pub fn managers_stay_sound()
+    ensures made { CreationsAreSound }
+    ensures called { CallsKeepSessionsSound }
+    ensures found { SessionsAreFoundOldOrNew }
 {}
