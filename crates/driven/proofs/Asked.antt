@@ -21,10 +21,10 @@ use Rattle.driven.specs.declared.effect.Effect.TheVariants.{Barrier, Context}
 use Rattle.driven.specs.declared.untold.Untold.{Untold}
 use Rattle.driven.specs.declared.untold.Untold.TheVariants as untold
 use Rattle.driven.specs.Driven.{Tells}
-use Rattle.driven.specs.Effects.{AreEffects, BringsAll, EndInBarrier, IsForMemory, IsQuiet, Sends, in_order, waited}
+use Rattle.driven.specs.Effects.{AreEffects, BringsAll, EndInBarrier, IsBrought, IsForMemory, IsQuiet, Sends, in_order, waited}
 use Rattle.driven.specs.Laws.{MayChange}
 use Rattle.driven.specs.Telling.{IsSentBy, with_wait}
-use Rattle.driven.proofs.Brought.{none_for_tables, one_for_tables}
+use Rattle.driven.proofs.Brought.{brought_by, brought_either, none_brought, none_for_tables, one_for_tables}
 use Rattle.driven.proofs.Fills.{none_fill}
 use Rattle.driven.proofs.Sent.{IsSilent, silent}
 use Rattle.driven.proofs.Told.{nothing_in_order, one_entry, sent_part, whole_row, words_stay}
@@ -40,6 +40,14 @@ entry_for_memory t device first is =
     (All-push (λ e. IsForMemory t e) [] (Context device first) (for_memory t [] none_for_tables) is)
     (for_memory t (Barrier ∷ []) (one_for_tables Barrier tt))
 
+-- it brings no word
+no_word : (device : ℕ) (first : Half) (f k : ℕ) → IsBrought (entry_told device first) f k → ⊥
+no_word device first f k there =
+    elim (brought_either (Context device first ∷ []) (Barrier ∷ []) f k there) [
+      | inl one ↦ brought_by (Context device first) f k one
+      | inr last ↦ brought_by Barrier f k last
+    ]
+
 none_quiet : (reply : Reply) → IsQuiet reply []
 none_quiet (Refused refusal) = refl
 none_quiet reply = tt
@@ -50,6 +58,7 @@ module _ (m t : State) (call : Call) (reply : Reply) (sound : IsSound m) (ticket
   pub nothing : t.iommu.contexts ≡ m.iommu.contexts → BringsAll m t []
   nothing row = record {
     for_memory = for_memory t [] none_for_tables;
+    inside = λ f k inside told. absurd (none_brought f k told);
     words = words_stay m t call reply tickets does sound none [];
     contexts = whole_row m t row [];
     fills = none_fill m t call reply sound does none [];
@@ -63,6 +72,7 @@ module _ (m t : State) (call : Call) (reply : Reply) (sound : IsSound m) (ticket
   one_for_entry device first half row = record {
     ends = inr (Context device first ∷ [], refl);
     for_memory = entry_for_memory t device first half;
+    inside = λ f k inside told. absurd (no_word device first f k told);
     words = words_stay m t call reply tickets does sound none (entry_told device first);
     contexts = elim row [
       | inl same ↦ whole_row m t same (entry_told device first)

@@ -23,7 +23,7 @@ use Rattle.driven.specs.declared.effect.Effect.{Effect}
 use Rattle.driven.specs.declared.effect.Effect.TheVariants.{Barrier, Words}
 use Rattle.driven.specs.Effects.{Brings, EndInBarrier, IsBrought, IsForTables}
 use Rattle.driven.specs.Telling.{BringsFrames, BringsLevel, BringsLowest, BringsMapped, BringsPart, BringsTable, BringsUnmapped}
-use Rattle.driven.specs.Telling.{BringsUpper, BringsWalks, BringsWhole, TablesStay}
+use Rattle.driven.specs.Telling.{BringsUpper, BringsWalks, BringsWhole, IsTableOnWaysFrom, TablesStay}
 
 pub brought_left : (xs ys : List Effect) (f k : ℕ) → IsBrought xs f k → IsBrought (xs ++ ys) f k
 brought_left xs ys f k (e, (inside, brings)) = (e, (in_left e xs ys inside, brings))
@@ -135,6 +135,24 @@ module _ (pool : Pool) (h : Option Domain) (first last : ℕ) (x y z : List Effe
   abbrev pub Between : List Effect
   Between = (((Barrier ∷ []) ++ x) ++ y) ++ z
 
+  -- what is told there is of a table of one of the three levels
+  between_only : BringsLevel pool h 2 first last x → BringsLevel pool h 3 first last y → BringsLevel pool h 4 first last z → (f k : ℕ)
+      → k < TABLE_ENTRIES → IsBrought (Between ++ Barrier ∷ []) f k → IsTableOnWaysFrom pool h 2 first (last + 1) f
+  between_only two three four f k inside there =
+      elim (brought_either Between (Barrier ∷ []) f k there) [
+        | inl most ↦ elim (brought_either (((Barrier ∷ []) ++ x) ++ y) z f k most) [
+          | inl lower ↦ elim (brought_either ((Barrier ∷ []) ++ x) y f k lower) [
+            | inl lowest ↦ elim (brought_either (Barrier ∷ []) x f k lowest) [
+              | inl none ↦ absurd (brought_by Barrier f k none)
+              | inr at ↦ (2, (omega arith, omega arith, two.only f k inside at))
+            ]
+            | inr at ↦ (3, (omega arith, omega arith, three.only f k inside at))
+          ]
+          | inr at ↦ (4, (omega arith, omega arith, four.only f k inside at))
+        ]
+        | inr none ↦ absurd (brought_by Barrier f k none)
+      ]
+
   pub upper : BringsLevel pool h 2 first last x → BringsLevel pool h 3 first last y → BringsLevel pool h 4 first last z
       → BringsUpper pool h first last (Between ++ Barrier ∷ [])
   upper two three four = record {
@@ -147,6 +165,7 @@ module _ (pool : Pool) (h : Option Domain) (first last : ℕ) (x y z : List Effe
         (All-append IsForTables ((Barrier ∷ []) ++ x) y
         (All-append IsForTables (Barrier ∷ []) x (one_for_tables Barrier tt) two.for_memory) three.for_memory) four.for_memory)
         (one_for_tables Barrier tt);
+    only = between_only two three four;
     brings = λ level p f low high a b at.
         brought_left Between (Barrier ∷ []) f (index_in (level - 1) p)
         (⊎_elim
@@ -190,6 +209,13 @@ pub ways : (pool : Pool) (h : Option Domain) (from last to : ℕ) (x y : List Ef
 ways pool h from last to x y end lowest above = record {
   ends = last_barrier x y above.begins above.ends;
   for_memory = All-append IsForTables x y lowest.for_memory above.for_memory;
+  only = λ f k inside there.
+      subst (λ n. IsTableOnWaysFrom pool h 1 from n f) (sym end)
+      (elim (brought_either x y f k there) [
+        | inl low ↦ (1, (omega arith, omega arith, lowest.only f k inside low))
+        | inr up ↦
+            let (level, (more, few, at)) = above.only f k inside up in (level, (omega (arith, more), few, at))
+      ]);
   brings = λ level p f low high a b at.
       let inside : p ≤ last = omega (arith, b, end) in
       ⊎_elim
@@ -202,11 +228,18 @@ ways pool h from last to x y end lowest above = record {
 
 -- the pages of one table that was there, and a barrier
 pub mapped_in : (pool : Pool) (h : Option Domain) (from last to frame : ℕ) (grew : Bool) (e : Effect) → to ≡ last + 1 → grew ≡ false
-    → table_at pool h from 1 ≡ Some frame → from / TABLE_ENTRIES ≡ last / TABLE_ENTRIES → BringsPart frame from last e
+    → table_at pool h from 1 ≡ Some frame → from ≤ last → from / TABLE_ENTRIES ≡ last / TABLE_ENTRIES → BringsPart frame from last e
     → BringsMapped pool h from to grew (e ∷ Barrier ∷ [])
-mapped_in pool h from last to frame grew e end stays is near part = record {
+mapped_in pool h from last to frame grew e end stays is some near part = record {
   ends = inr (e ∷ [], refl);
   for_memory = All-append IsForTables (e ∷ []) (Barrier ∷ []) (one_for_tables e part.0) (one_for_tables Barrier tt);
+  only = λ f k inside there.
+      elim (brought_either (e ∷ []) (Barrier ∷ []) f k there) [
+        | inl one ↦
+            let own : frame ≡ f = part.2 f k inside (brought_by e f k one) in
+            (1, (omega arith, omega arith, (from, (omega arith, omega (arith, some, end), is ∙ ap (λ n. Some n) own))))
+        | inr none ↦ absurd (brought_by Barrier f k none)
+      ];
   brings = inr (
     frame,
     (
@@ -221,7 +254,12 @@ mapped_in pool h from last to frame grew e end stays is near part = record {
 
 pub mapped_ways : (pool : Pool) (h : Option Domain) (from to : ℕ) (grew : Bool) (es : List Effect) → BringsWalks pool h from to es
     → BringsMapped pool h from to grew es
-mapped_ways pool h from to grew es brings = record { ends = brings.ends; for_memory = brings.for_memory; brings = inl brings }
+mapped_ways pool h from to grew es brings = record {
+  ends = brings.ends;
+  for_memory = brings.for_memory;
+  only = brings.only;
+  brings = inl brings;
+}
 
 -- where all tables of level 1 stay, no more than theirs and a barrier
 pub unmapped_in : (pool : Pool) (h : Option Domain) (first last : ℕ) (before : List (Option ℕ)) (x : List Effect)
@@ -234,6 +272,11 @@ unmapped_in pool h first last before x lowest stay = record {
   ends = inr (x, refl);
   brings_lowest = lowest;
   for_memory = All-append IsForTables x (Barrier ∷ []) lowest.for_memory (one_for_tables Barrier tt);
+  only = λ f k inside there.
+      elim (brought_either x (Barrier ∷ []) f k there) [
+        | inl low ↦ inl (lowest.only f k inside low)
+        | inr none ↦ absurd (brought_by Barrier f k none)
+      ];
   upper = inl stay;
   spans = λ p was a b at.
       let t = lowest.spans p was a b at in (
@@ -251,6 +294,11 @@ unmapped pool h first last before x y lowest above = record {
   ends = last_barrier x y above.begins above.ends;
   brings_lowest = lowest;
   for_memory = All-append IsForTables x y lowest.for_memory above.for_memory;
+  only = λ f k inside there.
+      elim (brought_either x y f k there) [
+        | inl low ↦ inl (lowest.only f k inside low)
+        | inr up ↦ inr (above.only f k inside up)
+      ];
   upper = inr (λ level p f low high a b at. brought_right x y f (index_in (level - 1) p) (above.brings level p f low high a b at));
   spans = λ p was a b at.
       let t = lowest.spans p was a b at in (
@@ -265,6 +313,13 @@ frames count frame e none is = record {
   ends = inr (e ∷ [], refl);
   for_memory =
       All-append IsForTables (e ∷ []) (Barrier ∷ []) (one_for_tables e (subst IsForTables (sym is) tt)) (one_for_tables Barrier tt);
+  only = λ f k inside there.
+      elim (brought_either (e ∷ []) (Barrier ∷ []) f k there) [
+        | inl one ↦
+            let told : Brings (Words frame 0 (TABLE_ENTRIES * count)) f k = subst (λ x. Brings x f k) is (brought_by e f k one) in
+            omega (arith, none, told.1)
+        | inr clash ↦ absurd (brought_by Barrier f k clash)
+      ];
   brings = λ f k low inside.
       brought_left (e ∷ []) (Barrier ∷ []) f k (brought_one e f k (subst (λ x. Brings x f k) (sym is) (
         omega (arith, none),

@@ -31,6 +31,14 @@ not_refused s t d h r (w, q) here does =
     let v = both_there s.pool.words (domain_at s.domains d) (w.domains d) h (q.domains d) here in
     not_lacking w d v.0 r v.1 (does.steps w q).0
 
+-- what becomes of the state, told with what is asked
+pub does_both : (m : State) (device : ℕ) (r : Result ℕ Refusal) (t : State) (es : List Effect) → DetachesAll m device r t es
+    → DoesBoth m device r t
+does_both m device (Ok released) t es all =
+    (record { domain = all.done.domain; had = all.done.had; between = all.done.between; detaches = all.done.detaches; flushes =
+    all.done.flushes }, tt)
+does_both m device (Err refusal) t es all = (tt, all.refused.0)
+
 module _ (m s : State) (device : ℕ) (sound : IsSound m) (does : Does m (calls.Detach device) Done s) where
   abbrev Had : Type 0
   Had = (d : ℕ) × (h : Domain) × ((attached (slice_get m.iommu.contexts device) ≡ Some d) × (domain_at s.domains d ≡ Some h))

@@ -31,7 +31,7 @@ use Rattle.driven.specs.declared.untold.Lowest.TheVariants.{MayCome, Noted, Stay
 use Rattle.driven.specs.declared.untold.Mapped.{Mapped}
 use Rattle.driven.specs.Driven.{AreLowest, AreNoted, IsEnded, IsMapped, TellsMap, TellsUnmap}
 use Rattle.driven.specs.Effects.{AreEffects, BringsAll, IsBrought, IsQuiet, in_order, waited}
-use Rattle.driven.specs.Telling.{AreLeftOut, AreTablesOf, BringsMapped, BringsUnmapped, IsSentBy, StayInPart, with_wait}
+use Rattle.driven.specs.Telling.{AreLeftOut, AreTablesOf, BringsMapped, BringsUnmapped, IsLowest, IsSentBy, StayInPart, with_wait}
 use Rattle.driven.proofs.Asked.{asks}
 use Rattle.driven.proofs.BringsAll.{there}
 use Rattle.driven.proofs.Cuts.{cuts}
@@ -120,6 +120,20 @@ module _ (pool : Pool) (h : Option Domain) (first last : ℕ) (before tables : L
       whole : (f k : ℕ) → table_at pool h p 1 ≡ Some f → k < TABLE_ENTRIES → IsBrought es f k
       whole f k is inside = told.1 f k (λ none. none-some f (none ∙ is)) (inr is) inside
 
+  -- a table that such a span has now is there, whatever it was before
+  still : (f : ℕ) → (p : ℕ) × IsLowest pool h first last tables p f → (p : ℕ) × IsLowest pool h first last before p f
+  still f (p, (low, high, which)) = (
+    p,
+    (
+      low,
+      high,
+      elim which [
+        | inl had ↦ absurd (none-some f (same_Some None (Some f) (sym (none_at p low high) ∙ had)))
+        | inr is ↦ inr is
+      ],
+    ),
+  )
+
   pub left_out : (es : List Effect) → BringsUnmapped pool h first last tables es → BringsUnmapped pool h first last before es
   left_out es b = record {
     lowest = b.lowest;
@@ -127,20 +141,14 @@ module _ (pool : Pool) (h : Option Domain) (first last : ℕ) (before tables : L
     parted = b.parted;
     ends = b.ends;
     for_memory = b.for_memory;
+    only = λ f k inside told.
+        elim (b.only f k inside told) [
+          | inl lowest ↦ inl (still f lowest)
+          | inr above ↦ inr above
+        ];
     brings_lowest = record {
       for_memory = b.brings_lowest.for_memory;
-      only = λ f k inside told.
-          let (p, (low, high, which)) = b.brings_lowest.only f k inside told in (
-            p,
-            (
-              low,
-              high,
-              elim which [
-                | inl had ↦ absurd (none-some f (same_Some None (Some f) (sym (none_at p low high) ∙ had)))
-                | inr is ↦ inr is
-              ],
-            ),
-          );
+      only = λ f k inside told. still f (b.brings_lowest.only f k inside told);
       spans = λ p was low high at.
           page b.lowest p was low high at (b.brings_lowest.spans p None low high (none_at p low high));
     };

@@ -1,7 +1,7 @@
 -- The words of a level on the ways of pages, table by table.
-use Rattle.std.proofs.Common.{◌≡◌, ℕ, suc, ◌+◌, ◌-◌, ◌*◌, ◌/◌, ◌%◌, ◌<◌, ◌≤◌, ⊎_elim, List, [], ◌∷◌, ◌++◌, Option, Some, None}
+use Rattle.std.proofs.Common.{◌≡◌, ℕ, suc, ◌+◌, ◌-◌, ◌*◌, ◌/◌, ◌%◌, ◌<◌, ◌≤◌, inl, inr, ⊎_elim, List, [], ◌∷◌, ◌++◌, Option, Some, None}
 use Rattle.std.proofs.Common.{refl, sym, ap, subst, ◌∙◌, arith}
-use Rattle.std.proofs.Math.Nat.{mul-div_cancel}
+use Rattle.std.proofs.Math.Nat.{div-mul-le_self, mul-div_cancel, mul-le-mul_right}
 use Rattle.std.proofs.lemmas.Bool.{cases_lt}
 use Rattle.std.proofs.lemmas.Option.{none-some, same_Some}
 use Rattle.dmatypes.specs.Page.{levels}
@@ -15,8 +15,8 @@ use Rattle.engine.specs.Domains.{Domain}
 use Rattle.engine.specs.Walkable.{table_at}
 use Rattle.driven.specs.declared.effect.Effect.{Effect}
 use Rattle.driven.specs.Effects.{IsBrought}
-use Rattle.driven.specs.Telling.{BringsPart, most_tables}
-use Rattle.driven.proofs.Brought.{brought_left, brought_one, brought_right}
+use Rattle.driven.specs.Telling.{BringsPart, IsTableOnWays, most_tables}
+use Rattle.driven.proofs.Brought.{brought_by, brought_either, brought_left, brought_one, brought_right, none_brought}
 
 -- the number of the table of a level in which a page's word lies
 pub table_number : (level p : ℕ) → 1 ≤ level → p / span level ≡ p / span (level - 1) / TABLE_ENTRIES
@@ -84,6 +84,41 @@ module _ (pool : Pool) (h : Option Domain) (level first last width : ℕ) (some 
         let here : p / width / TABLE_ENTRIES ≡ table = omega (arith, not, less) in
         absurd (none-some f (sym none ∙ near_at_level pool h p (from * width) level f (sym (looked p here)) at)))
         (cases_lt (p / width / TABLE_ENTRIES) table)
+
+  -- what is told is of the tables on these ways alone
+  abbrev pub Only : List Effect → Type 0
+  Only more = (f k : ℕ) → k < TABLE_ENTRIES → IsBrought more f k → IsTableOnWays pool h level first (last + 1) f
+
+  pub only_none : Only []
+  only_none f k inside there = absurd (none_brought f k there)
+
+  -- one of the pages has its word where the entry of this number is
+  page_of : (from : ℕ) → first ≤ last → first / width ≤ from → from ≤ last / width
+      → (p : ℕ) × ((first ≤ p) × (p < last + 1) × (p / width ≡ from))
+  page_of from some low high =
+      elim (cases_lt (from * width) first) [
+        | inl early ↦
+            let more : from ≤ first / width =
+            subst (λ n. n ≤ first / width) (mul-div_cancel from wide)
+            (div_mono (from * width) first width wide (omega (arith, early))) in
+            (first, (omega arith, omega (arith, some), omega (arith, low, more)))
+        | inr late ↦
+            let few : from * width ≤ last / width * width = mul-le-mul_right width high in
+            (from * width, (late, omega (arith, few, div-mul-le_self last width), mul-div_cancel from wide))
+      ]
+
+  pub only_part : (more : List Effect) (from to frame : ℕ) (e : Effect) → Only more → first ≤ last → first / width ≤ from
+      → from ≤ last / width → table_at pool h (from * width) level ≡ Some frame → BringsPart frame from to e → Only (more ++ e ∷ [])
+  only_part more from to frame e told some low high there part f k inside brings =
+      elim (brought_either more (e ∷ []) f k brings) [
+        | inl earlier ↦ told f k inside earlier
+        | inr new ↦
+            let (p, (from_here, to_here, here)) = page_of from some low high in
+            let same : (from * width) / span level ≡ p / span level =
+            number (from * width) ∙ ap (λ n. n / TABLE_ENTRIES) (mul-div_cancel from wide ∙ sym here) ∙ sym (number p) in
+            let own : frame ≡ f = part.2 f k inside (brought_by e f k new) in
+            (p, (from_here, to_here, near_at_level pool h (from * width) p level f same (there ∙ ap (λ n. Some n) own)))
+      ]
 
 -- ---- how many tables
 

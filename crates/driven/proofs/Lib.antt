@@ -17,6 +17,7 @@ pub mod Stays
 pub mod Trees
 pub mod Known
 pub mod Fills
+pub mod Frames
 pub mod Moments
 pub mod Detached
 pub mod Stepped

@@ -30,7 +30,7 @@ use Rattle.driven.specs.declared.effect.Effect.TheVariants.{Context}
 use Rattle.driven.specs.Effects.{AreEffects, BringsAll, IsBrought, IsSending, Sends, by_mode, in_mode, in_order, waited}
 use Rattle.driven.specs.Laws.{MayChange}
 use Rattle.driven.specs.Telling.{HasSent, IsSentBy, with_wait}
-use Rattle.driven.proofs.Brought.{none_for_tables}
+use Rattle.driven.proofs.Brought.{none_brought, none_for_tables}
 use Rattle.driven.proofs.Calls.{calls_change}
 use Rattle.driven.proofs.Fills.{same_fill}
 use Rattle.driven.proofs.Sent.{submits}
@@ -80,6 +80,7 @@ nothing_in_order m (calls.Evict kind place) = refl
 pub brings_nothing : (m t : State) → t.pool.words ≡ m.pool.words → t.iommu.contexts ≡ m.iommu.contexts → BringsAll m t []
 brings_nothing m t words row = record {
   for_memory = for_memory t [] none_for_tables;
+  inside = λ f k inside told. absurd (none_brought f k told);
   words = λ f k inside differs. absurd (differs (ap (λ ws. word ws f k) (sym words)));
   contexts = λ v differs. absurd (differs (ap (λ r. slice_get r v) (sym row)));
   fills = same_fill m t words [];

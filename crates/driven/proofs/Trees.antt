@@ -29,7 +29,6 @@ use Rattle.engine.specs.Ending.{ByMode, Closes, MakesRoom, PutsOff, UnmapsStrict
 use Rattle.engine.specs.Placing.{Placement, Places}
 use Rattle.engine.specs.State.{Becomes, State, operands_in}
 use Rattle.engine.specs.Steps.{Does}
-use Rattle.engine.specs.Walkable.{table_at}
 use Rattle.engine.proofs.domains.OneChanged.{both_there, domain_low}
 use Rattle.engine.proofs.frames.Owners.{tree_of}
 use Rattle.quiet.proofs.Calls.{not_bad_list, not_bad_map, some_pages, unmap_pages}
@@ -44,6 +43,7 @@ use Rattle.driven.proofs.BringsAll.{exchanged, stays_or_came}
 use Rattle.driven.proofs.Calls.{calls_change}
 use Rattle.driven.proofs.Cuts.{cuts}
 use Rattle.driven.proofs.Fills.{closed_fill, cut_fill, placed_fill}
+use Rattle.driven.proofs.Frames.{mapped_within, unmapped_within}
 use Rattle.driven.proofs.Rows.{rows}
 use Rattle.driven.proofs.Stays.{cut_stays, cut_upper, placed_words}
 use Rattle.driven.proofs.Told.{whole_row}
@@ -74,12 +74,21 @@ module _ (m t : State) (d frame pages order rights address : ℕ) (sound : IsSou
       (subst (λ (y : Domain). IsOnWalks t.pool.words (levels y.width) y.root (address / PAGE_BYTES) (address / PAGE_BYTES + pages) f k)
       (same_Some g h (sym there ∙ here)) on)
 
+  map_inside : Becomes m (calls.Map d frame pages order rights) (Mapped address) t → (grew : Bool) (es : List Effect)
+      → BringsMapped t.pool (domain_at t.domains d) (address / PAGE_BYTES) (address / PAGE_BYTES + pages) grew es → (f k : ℕ)
+      → k < TABLE_ENTRIES → IsBrought es f k → f < t.pool.frames
+  unfolding Becomes
+  map_inside (h, new, here, places, sent, is) grew es brings f k inside told =
+      mapped_within m t sound d h here (calls.Map d frame pages order rights) (Mapped address) does (λ is done. cc)
+      (address / PAGE_BYTES) (address / PAGE_BYTES + pages) grew es brings f k inside told
+
   pub map_brings : (grew : Bool) → (grew ≡ false → length t.pool.free ≡ length m.pool.free) → (es : List Effect)
       → BringsMapped t.pool (domain_at t.domains d) (address / PAGE_BYTES) (address / PAGE_BYTES + pages) grew es
       → BringsAll m t es
   map_brings grew same es brings = record {
     for_memory = for_memory t es brings.for_memory;
     ends = brings.ends;
+    inside = map_inside does.becomes grew es brings;
     words = map_words does.becomes grew same es brings;
     contexts = whole_row m t (rows m t (calls.Map d frame pages order rights) (Mapped address) does.becomes) es;
     fills = map_fill does.becomes es;
@@ -109,12 +118,21 @@ module _ (m t : State) (d order rights address : ℕ) (segments : ArrayVec Segme
       (subst (λ (y : Domain). IsOnWalks t.pool.words (levels y.width) y.root (address / PAGE_BYTES)
       (address / PAGE_BYTES + total_pages segments.items) f k) (same_Some g h (sym there ∙ here)) on)
 
+  list_inside : Becomes m (calls.MapList d order rights segments) (Mapped address) t → (grew : Bool) (es : List Effect)
+      → BringsMapped t.pool (domain_at t.domains d) (address / PAGE_BYTES) (address / PAGE_BYTES + total_pages segments.items) grew es
+      → (f k : ℕ) → k < TABLE_ENTRIES → IsBrought es f k → f < t.pool.frames
+  unfolding Becomes
+  list_inside (h, new, here, places, sent, is) grew es brings f k inside told =
+      mapped_within m t sound d h here (calls.MapList d order rights segments) (Mapped address) does (λ is done. cc)
+      (address / PAGE_BYTES) (address / PAGE_BYTES + total_pages segments.items) grew es brings f k inside told
+
   pub list_brings : (grew : Bool) → (grew ≡ false → length t.pool.free ≡ length m.pool.free) → (es : List Effect)
       → BringsMapped t.pool (domain_at t.domains d) (address / PAGE_BYTES) (address / PAGE_BYTES + total_pages segments.items) grew es
       → BringsAll m t es
   list_brings grew same es brings = record {
     for_memory = for_memory t es brings.for_memory;
     ends = brings.ends;
+    inside = list_inside does.becomes grew es brings;
     words = list_words does.becomes grew same es brings;
     contexts = whole_row m t (rows m t (calls.MapList d order rights segments) (Mapped address) does.becomes) es;
     fills = list_fill does.becomes es;
@@ -169,12 +187,22 @@ module _ (m t : State) (d address pages released : ℕ) (sound : IsSound m)
       (subst (λ (y : Domain). table_from (memory t.pool.words) (levels y.width) y.root p (suc (suc l)) ≡ Some f)
       (same_Some g h (sym there ∙ here)) at)
 
+  unmap_inside : Becomes m (calls.Unmap d address pages) (Unmapped released) t → (last : ℕ) (before : List (Option ℕ))
+      → AreTablesOf m.pool (domain_at m.domains d) (address / PAGE_BYTES) last before → (es : List Effect)
+      → BringsUnmapped t.pool (domain_at t.domains d) (address / PAGE_BYTES) last before es → (f k : ℕ) → k < TABLE_ENTRIES
+      → IsBrought es f k → f < t.pool.frames
+  unfolding Becomes
+  unmap_inside (h, new, here, ends, is) last before were es brings f k inside told =
+      unmapped_within m t sound d h here (calls.Unmap d address pages) (Unmapped released) does (λ is done. cc) (address / PAGE_BYTES) last
+      before were es brings f k inside told
+
   pub unmap_brings : (last : ℕ) → address / PAGE_BYTES + pages ≡ last + 1 → (before : List (Option ℕ))
       → AreTablesOf m.pool (domain_at m.domains d) (address / PAGE_BYTES) last before → (es : List Effect)
       → BringsUnmapped t.pool (domain_at t.domains d) (address / PAGE_BYTES) last before es → BringsAll m t es
   unmap_brings last end before were es brings = record {
     for_memory = for_memory t es brings.for_memory;
     ends = brings.ends;
+    inside = unmap_inside does.becomes last before were es brings;
     words = λ f k inside differs.
         elim (calls_change m t (calls.Unmap d address pages) (Unmapped released) f k sound does inside differs) [
           | inl on ↦
@@ -226,6 +254,7 @@ module _ (m t : State) (d : ℕ) (sound : IsSound m) (does : Does m (calls.Drop 
   drop_brings es brings = record {
     for_memory = for_memory t es brings.for_memory;
     ends = brings.ends;
+    inside = brings.only;
     words = drop_by does.becomes es brings;
     contexts = whole_row m t (rows m t (calls.Drop d) Done does.becomes) es;
     fills = drop_fill does.becomes es;

@@ -78,6 +78,8 @@ EndInBarrier effects = (effects ≡ []) ⊎ ((earlier : List Effect) × (effects
 pub record BringsAll (m t : State) (effects : List Effect) : Type 0 where
   pub for_memory : All (λ effect. IsForMemory t effect) effects
   pub words : (f k : ℕ) → k < TABLE_ENTRIES → word m.pool.words f k ≢ word t.pool.words f k → IsBrought effects f k
+  -- no word is brought of a frame that the pool doesn't have
+  pub inside : (f k : ℕ) → k < TABLE_ENTRIES → IsBrought effects f k → f < t.pool.frames
   pub contexts : (v : ℕ) → slice_get m.iommu.contexts v ≢ slice_get t.iommu.contexts v
       → IsIn (Context v (first_half (slice_get t.iommu.contexts v))) effects
   pub fills : FillsTables m t effects
@@ -146,7 +148,21 @@ pub record AreEffects (m : State) (call : Call) (reply : Reply) (t : State) (eff
 
 -- ---- a detach, and a flush after it
 
--- a device is detached, and then the domain that it had is flushed
+-- a device is detached, and then the domain that it had is flushed, by two calls
+pub record IsDetachedAndFlushed (m : State) (device released : ℕ) (t : State) : Type 0 where
+  pub domain : ℕ
+  pub had : attached (slice_get m.iommu.contexts device) ≡ Some domain
+  pub between : State
+  pub detaches : Does m (calls.Detach device) Done between
+  pub flushes : Does between (calls.Flush domain) (Flushed released) t
+
+-- what becomes of the state: both calls, or where the detach is refused that one alone
+abbrev pub DoesBoth : State → ℕ → Result ℕ Refusal → State → Type 0
+DoesBoth m device result t =
+    IfOk result (λ released. IsDetachedAndFlushed m device released t)
+    × IfErr result (λ refusal. Does m (calls.Detach device) (Refused refusal) t)
+
+-- the same with what both ask
 pub record DetachesAndFlushes (m : State) (device released : ℕ) (t : State) (effects : List Effect) : Type 0 where
   pub domain : ℕ
   pub had : attached (slice_get m.iommu.contexts device) ≡ Some domain
@@ -159,7 +175,7 @@ pub record DetachesAndFlushes (m : State) (device released : ℕ) (t : State) (e
   pub asks_then : AreEffects between (calls.Flush domain) (Flushed released) t second
   pub joined : effects ≡ first ++ second
 
--- a device is detached, and then the domain that it had is flushed. A detach that is refused is all of it
+-- and what is asked: by both calls, or by a refused detach nothing
 pub record DetachesAll (m : State) (device : ℕ) (result : Result ℕ Refusal) (t : State) (effects : List Effect) : Type 0 where
   pub done : IfOk result (λ released. DetachesAndFlushes m device released t effects)
   pub refused : IfErr result (λ refusal. Does m (calls.Detach device) (Refused refusal) t × (effects ≡ []))

@@ -27,17 +27,27 @@ BringsPart frame from to effect =
     IsForTables effect × ((e : ℕ) → from ≤ e → e ≤ to → Brings effect frame (e % TABLE_ENTRIES))
     × ((f k : ℕ) → k < TABLE_ENTRIES → Brings effect f k → frame ≡ f)
 
--- the words of a level on the ways of the pages from one to another
+-- the frame is the table of this level on the way of one of the pages from one up to another
+abbrev pub IsTableOnWays : Pool → Option Domain → ℕ → ℕ → ℕ → ℕ → Type 0
+IsTableOnWays pool h level from to f = (p : ℕ) × ((from ≤ p) × (p < to) × (table_at pool h p level ≡ Some f))
+
+-- it is so of this level or of one above it
+abbrev pub IsTableOnWaysFrom : Pool → Option Domain → ℕ → ℕ → ℕ → ℕ → Type 0
+IsTableOnWaysFrom pool h lowest from to f = (level : ℕ) × ((lowest ≤ level) × (level ≤ 4) × IsTableOnWays pool h level from to f)
+
+-- the words of a level on the ways of the pages from one to another, and no word of a table that is on none of them
 pub record BringsLevel (pool : Pool) (h : Option Domain) (level first last : ℕ) (effects : List Effect) : Type 0 where
   pub for_memory : All IsForTables effects
+  pub only : (f k : ℕ) → k < TABLE_ENTRIES → IsBrought effects f k → IsTableOnWays pool h level first (last + 1) f
   pub brings : (p f : ℕ) → first ≤ p → p ≤ last → table_at pool h p level ≡ Some f → IsBrought effects f (index_in (level - 1) p)
 
--- the words of the levels above the lowest, between two barriers
+-- the same of the levels above the lowest, between two barriers
 pub record BringsUpper (pool : Pool) (h : Option Domain) (first last : ℕ) (effects : List Effect) : Type 0 where
   pub rest : List Effect
   pub begins : effects ≡ Barrier ∷ rest
   pub ends : EndInBarrier effects
   pub for_memory : All IsForTables effects
+  pub only : (f k : ℕ) → k < TABLE_ENTRIES → IsBrought effects f k → IsTableOnWaysFrom pool h 2 first (last + 1) f
   pub brings : (level p f : ℕ) → 2 ≤ level → level ≤ 4 → first ≤ p → p ≤ last → table_at pool h p level ≡ Some f
       → IsBrought effects f (index_in (level - 1) p)
 
@@ -93,10 +103,11 @@ TablesStay pool h first last before =
     (p : ℕ) → first ≤ p → p ≤ last
     → (f : ℕ) × ((slice_get before (p / SPAN_PAGES - first / SPAN_PAGES) ≡ Some (Some f)) × (table_at pool h p 1 ≡ Some f))
 
--- the words on the ways of the pages from one up to another
+-- the words on the ways of the pages from one up to another, and no word of a table that is on none of them
 pub record BringsWalks (pool : Pool) (h : Option Domain) (from to : ℕ) (effects : List Effect) : Type 0 where
   pub ends : EndInBarrier effects
   pub for_memory : All IsForTables effects
+  pub only : (f k : ℕ) → k < TABLE_ENTRIES → IsBrought effects f k → IsTableOnWaysFrom pool h 1 from to f
   pub brings : (level p f : ℕ) → 1 ≤ level → level ≤ 4 → from ≤ p → p < to → table_at pool h p level ≡ Some f
       → IsBrought effects f (index_in (level - 1) p)
 
@@ -105,6 +116,7 @@ pub record BringsWalks (pool : Pool) (h : Option Domain) (from to : ℕ) (effect
 pub record BringsMapped (pool : Pool) (h : Option Domain) (from to : ℕ) (grew : Bool) (effects : List Effect) : Type 0 where
   pub ends : EndInBarrier effects
   pub for_memory : All IsForTables effects
+  pub only : (f k : ℕ) → k < TABLE_ENTRIES → IsBrought effects f k → IsTableOnWaysFrom pool h 1 from to f
   pub brings : BringsWalks pool h from to effects
       ⊎ ((frame : ℕ) × ((grew ≡ false) × (table_at pool h from 1 ≡ Some frame)
       × ((p : ℕ) → from ≤ p → p < to → p / SPAN_PAGES ≡ from / SPAN_PAGES)
@@ -120,6 +132,8 @@ pub record BringsUnmapped (pool : Pool) (h : Option Domain) (first last : ℕ) (
   pub ends : EndInBarrier effects
   pub brings_lowest : BringsLowest pool h first last before lowest
   pub for_memory : All IsForTables effects
+  pub only : (f k : ℕ) → k < TABLE_ENTRIES → IsBrought effects f k
+      → ((p : ℕ) × IsLowest pool h first last before p f) ⊎ IsTableOnWaysFrom pool h 2 first (last + 1) f
   pub upper : TablesStay pool h first last before
       ⊎ ((level p f : ℕ) → 2 ≤ level → level ≤ 4 → first ≤ p → p ≤ last → table_at pool h p level ≡ Some f
       → IsBrought effects f (index_in (level - 1) p))
@@ -128,10 +142,11 @@ pub record BringsUnmapped (pool : Pool) (h : Option Domain) (first last : ℕ) (
       × ((f k : ℕ) → was ≢ table_at pool h p 1 → (was ≡ Some f) ⊎ (table_at pool h p 1 ≡ Some f) → k < TABLE_ENTRIES
       → IsBrought effects f k)
 
--- all words of so many table frames
+-- all words of so many table frames, and no word of one after them
 pub record BringsFrames (frames : ℕ) (effects : List Effect) : Type 0 where
   pub ends : EndInBarrier effects
   pub for_memory : All IsForTables effects
+  pub only : (f k : ℕ) → k < TABLE_ENTRIES → IsBrought effects f k → f < frames
   pub brings : (f k : ℕ) → f < frames → k < TABLE_ENTRIES → IsBrought effects f k
 
 -- since so many waits were sent, a descriptor and its wait were submitted, or nothing was

@@ -12,7 +12,7 @@ ghost use Rattle.engine.specs.Quarantine.{Quarantine};
 ghost use Rattle.dmatypes.specs.World.{empty};
 ghost use Rattle.driven.specs.Driven.{Asks, HasTold, having_told};
 ghost use Rattle.driven.specs.declared.untold.Untold.TheVariants.{Nothing};
-ghost use Rattle.driven.specs.Effects.{AreEffects, DetachesAll};
+ghost use Rattle.driven.specs.Effects.{AreEffects, DetachesAll, DoesBoth};
 ghost use Rattle.driven.specs.UpTo.{DoesUpTo};
 ghost use Rattle.driven.specs.declared.telling.TheConstants.{MOST_EFFECTS};
 
@@ -177,6 +177,7 @@ impl Driven {
     /// then.
     pub fn detach_all(&mut self, device: u64) -> Result<u64, Refusal>
         requires { self.old.state.calls + 1 < CALLS_END }
+        ensures does { DoesBoth self.old.state device result self.new.state }
         ensures detaches { Asks self.new (DetachesAll self.old.state device result self.new.state) }
         ensures tells { self.new.tells ≡ self.old.tells }
     {

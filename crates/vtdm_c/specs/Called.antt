@@ -12,7 +12,7 @@ use Rattle.engine.specs.State.{IsNew, State, flushed_reply}
 use Rattle.engine.specs.Steps.{Does}
 use Rattle.dmatypes.specs.declared.refusal.Refusal.{Refusal}
 use Rattle.driven.specs.Driven.{Asks, IsTold, having_told}
-use Rattle.driven.specs.Effects.{AreEffects, DetachesAll}
+use Rattle.driven.specs.Effects.{AreEffects, DetachesAll, DoesBoth}
 use Rattle.driven.specs.declared.effect.Effect as driven
 use Rattle.driven.specs.UpTo.{DoesUpTo}
 use Rattle.driven.specs.declared.telling.TheConstants.{MOST_EFFECTS}
@@ -51,7 +51,7 @@ pub record Answered (s : Session) (call : Call) (answer : Answer) (t : Session) 
 pub record AnsweredAll (s : Session) (device : ℕ) (answer : Answer) (t : Session) : Type 0 where
   pub spent : CALLS_END ≤ (state_of s).calls + 1 → (answer ≡ lone SPENT) × (t ≡ s)
   pub does : (state_of s).calls + 1 < CALLS_END
-      → (result : Result ℕ Refusal) × (answer ≡ answer_of (flushed_reply result))
+      → (result : Result ℕ Refusal) × (answer ≡ answer_of (flushed_reply result)) × DoesBoth (state_of s) device result (state_of t)
       × Asks t.driven (DetachesAll (state_of s) device result (state_of t)) × IsSame s t
 
 -- nothing is asked

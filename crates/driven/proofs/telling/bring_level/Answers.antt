@@ -6,7 +6,7 @@ use Rattle.tables.specs.declared.entries.TheConstants.{TABLE_ENTRIES}
 use Rattle.engine.specs.Domains.{domain_at}
 use Rattle.driven.specs.Effects.{IsForTables}
 use Rattle.driven.proofs.Brought.{none_for_tables}
-use Rattle.driven.proofs.Levels.{told_none, told_nothing, told_part}
+use Rattle.driven.proofs.Levels.{only_none, only_part, told_none, told_nothing, told_part}
 use Rattle.driven.proofs.telling.bring_level.Goals as goal
 use Rattle.driven.proofs.telling.bring_level.Goals.{in-Some, in_default}
 
@@ -18,6 +18,8 @@ loop-table-init c = (
     omega arith,
     none_for_tables,
     told_none c.args.state.now.pool (domain_at c.args.state.now.domains c.args.domain) c.args.level c.args.first c.args.last
+        c.span_of-width.result c.requires.level.0 c.span_of-width.ensures.exact,
+    only_none c.args.state.now.pool (domain_at c.args.state.now.domains c.args.domain) c.args.level c.args.first c.args.last
         c.span_of-width.result c.requires.level.0 c.span_of-width.ensures.exact,
   ),
 )
@@ -38,7 +40,7 @@ bounds c begun =
 
 pub loop-table-preserved : goal.loop-table-preserved
 loop-table-preserved c =
-    let (more, (items, few, for_memory, told)) = c.loop-table.invariant in
+    let (more, (items, few, for_memory, told, only)) = c.loop-table.invariant in
     let b = bounds c (omega (arith, few)) in
     elim c.match-table_at.branch [
       | in-Some w ↦ (
@@ -51,6 +53,10 @@ loop-table-preserved c =
           told_part c.args.state.now.pool (domain_at c.args.state.now.domains c.args.domain) c.args.level c.args.first c.args.last
               c.span_of-width.result c.requires.level.0 c.span_of-width.ensures.exact more c.loop-table.table c.max-from.result
               c.min-to.result told b.0 b.1 b.2 b.3 w.in-Some.frame w.part.result (sym c.table_at.ensures ∙ w.in-Some.is) w.part.ensures,
+          only_part c.args.state.now.pool (domain_at c.args.state.now.domains c.args.domain) c.args.level c.args.first c.args.last
+              c.span_of-width.result c.requires.level.0 c.span_of-width.ensures.exact more c.max-from.result c.min-to.result
+              w.in-Some.frame w.part.result only c.requires.pages (omega (arith, c.max-from.ensures))
+              (omega (arith, b.0, c.min-to.ensures)) (sym c.table_at.ensures ∙ w.in-Some.is) w.part.ensures,
         ),
       )
       | in_default w ↦ (
@@ -62,13 +68,14 @@ loop-table-preserved c =
           told_nothing c.args.state.now.pool (domain_at c.args.state.now.domains c.args.domain) c.args.level c.args.first c.args.last
               c.span_of-width.result c.requires.level.0 c.span_of-width.ensures.exact more c.loop-table.table c.max-from.result
               c.min-to.result told b.0 b.1 b.2 b.3 (sym c.table_at.ensures ∙ w.in_default.is),
+          only,
         ),
       )
     ]
 
 pub returns : goal.returns
 returns c =
-    let (more, (items, few, for_memory, told)) = c.loop-table.invariant in
+    let (more, (items, few, for_memory, told, only)) = c.loop-table.invariant in
     let within : c.args.first / c.span_of-width.result ≤ c.args.last / c.span_of-width.result =
     div_mono c.args.first c.args.last c.span_of-width.result c.span_of-width.ensures.some c.requires.pages in
     let tables : c.args.first / c.span_of-width.result / TABLE_ENTRIES ≤ c.args.last / c.span_of-width.result / TABLE_ENTRIES =
@@ -80,6 +87,7 @@ returns c =
           (omega (arith, few, tables, c.loop-table.auto.table-end (omega (arith, tables)))),
       record {
         for_memory = for_memory;
+        only = only;
         brings = λ p f low high at.
             let last : p / c.span_of-width.result ≤ c.args.last / c.span_of-width.result =
             div_mono p c.args.last c.span_of-width.result c.span_of-width.ensures.some high in
