@@ -16,7 +16,7 @@ use Rattle.engine.specs.Steps.{Does}
 use Rattle.engine.proofs.domains.OneChanged.{both_there}
 use Rattle.quiet.specs.Quiet.{IsSound}
 use Rattle.driven.specs.declared.effect.Effect.{Effect}
-use Rattle.driven.specs.Effects.{AreEffects, DetachesAll}
+use Rattle.driven.specs.Effects.{AreEffects, DetachesAll, DoesBoth}
 
 -- a flush of a domain that there is isn't refused
 not_lacking : (w : world.World) (d : ℕ) (v : world.Domain) (r : Refusal) → w.domains d ≡ Some v → IsStep w (calls.Flush d) (Refused r) → ⊥

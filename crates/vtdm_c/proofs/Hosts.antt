@@ -16,6 +16,8 @@ use Rattle.vtdbits.specs.declared.entry.SsEntry.TheVariants.{Absent, Table, Leaf
 use Rattle.tables.specs.Tree as tree
 use Rattle.tables.specs.Tree.{LeafEntry, Memory, index_in, leaf_from, span, stated, table_from}
 use Rattle.tables.specs.declared.entries.TheConstants.{TABLE_ENTRIES}
+use Rattle.tables.proofs.walks.Onward.{deeper}
+use Rattle.tables.proofs.walks.Steps.{leaf-zero, table-zero, table_top, table_under}
 use Rattle.vtdm_c.specs.Base.{IsBase, entry_of, frame_of, number_of, word_of}
 use Rattle.vtdm_c.specs.Hosts.{AreFree, AreFreeByNumber, AreHosted, ContextsNameHostFrames, FramesAreJudgedAlike, FramesAreReached}
 use Rattle.vtdm_c.specs.Hosts.{LeavesStayAligned, NothingMovesAt0, PagesAreFoundInHostFrames, PassesTableFrames, TablesBeginThere}
@@ -145,14 +147,15 @@ no_leaf o x a b = cc
 one_leaf : (x y : LeafEntry) → Some x ≡ Some y → x ≡ y
 one_leaf x y e = cc
 
+-- the table where it begins is one, and so is each that it passes from the next one on
 passes_here : (frames : ℕ) (m : Memory) (l table page : ℕ) → PassesTableFrames frames m (suc l) table page → table < frames
-unfolding PassesTableFrames
-passes_here frames m l table page h = h.0
+passes_here frames m l table page passes = passes (suc l) table (table_top m l table page (suc l) refl)
 
 passes_below : (frames : ℕ) (m : Memory) (l table page c : ℕ) → PassesTableFrames frames m (suc l) table page
     → m (suc l) table (index_in l page) ≡ Table c → PassesTableFrames frames m l c page
-unfolding PassesTableFrames
-passes_below frames m l table page c h e = h.1 c e
+passes_below frames m l table page c passes e w f found =
+    let low : w ≤ l = deeper m l c page w f found in
+    passes w f (table_under m l table page w (Table c) (λ top. absurd (omega (arith, top, low))) e ∙ found)
 
 -- what is seen in the host frame of a table
 seen_there : (frames base : ℕ) (words hosted : ℕ → ℕ → ℕ → ℕ) (level table index : ℕ) → IsBase frames base
@@ -216,12 +219,16 @@ table_below frames base words hosted (suc l) table page w is h passes =
     by_entry (LargeLeaf t) below = refl
 
 pub walks : WalksFindHostFrames
-walks frames base words hosted level table page is h within passes = (
-  ap (λ f. leaf_from (seen hosted) level f page) (sym (tables_begin frames base table is within))
-      ∙ leaf_below frames base words hosted level table page is h passes,
-  λ w. ap (λ f. table_from (seen hosted) level f page w) (sym (tables_begin frames base table is within))
-      ∙ table_below frames base words hosted level table page w is h passes,
+walks frames base words hosted zero table page is h passes = (
+  leaf-zero (seen hosted) (base + table) page ∙ sym (ap (λ o. leaf_of base o) (leaf-zero (seen words) table page)),
+  λ w. table-zero (seen hosted) (base + table) page w ∙ sym (ap (λ o. table_of base o) (table-zero (seen words) table page w)),
 )
+walks frames base words hosted (suc l) table page is h passes =
+    let begins : frame_of base table ≡ base + table = tables_begin frames base table is (passes_here frames (seen words) l table page passes) in (
+      ap (λ f. leaf_from (seen hosted) (suc l) f page) (sym begins) ∙ leaf_below frames base words hosted (suc l) table page is h passes,
+      λ w. ap (λ f. table_from (seen hosted) (suc l) f page w) (sym begins)
+          ∙ table_below frames base words hosted (suc l) table page w is h passes,
+    )
 
 -- a leaf is of one page, or begins at a multiple of 512
 abbrev IsAlignedLeaf : LeafEntry → Type 0
@@ -272,9 +279,9 @@ in_width true base x y e = e
 in_width false base x y e = refl
 
 pub pages_found : PagesAreFoundInHostFrames
-pages_found frames base words hosted width root page is h within passes =
+pages_found frames base words hosted width root page is h passes =
     in_width (nat_lt page (pages_end width)) base _ _ (
-    ap (λ o. stated page o) (walks frames base words hosted (levels width) root page is h within passes).0
+    ap (λ o. stated page o) (walks frames base words hosted (levels width) root page is h passes).0
     ∙ stated_there base page (leaf_from (seen words) (levels width) root page) is.0
     (λ x e. aligned_leaf words (levels width) root page x e)
     )
