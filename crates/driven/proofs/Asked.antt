@@ -7,7 +7,6 @@ use Rattle.driven.proofs.Brought.{for_memory}
 use Rattle.std.proofs.Common.{◌≡◌, ◌⊎◌, inl, inr, ℕ, Bool, Option, List, [], ◌∷◌, refl, subst, slice_set, sym}
 use Rattle.std.specs.List.{All}
 use Rattle.std.proofs.lemmas.List.Elements.{All-append}
-use Rattle.dmatypes.specs.World.{IsIn}
 use Rattle.dmatypes.specs.declared.call.Call.{Call}
 use Rattle.dmatypes.specs.declared.reply.Reply.{Reply}
 use Rattle.dmatypes.specs.declared.reply.Reply.TheVariants.{Refused}
@@ -21,7 +20,7 @@ use Rattle.driven.specs.declared.effect.Effect.TheVariants.{Barrier, Context}
 use Rattle.driven.specs.declared.untold.Untold.{Untold}
 use Rattle.driven.specs.declared.untold.Untold.TheVariants as untold
 use Rattle.driven.specs.Driven.{Tells}
-use Rattle.driven.specs.Effects.{AreEffects, BringsAll, EndInBarrier, IsBrought, IsForMemory, IsQuiet, Sends, in_order, waited}
+use Rattle.driven.specs.Effects.{AreEffects, BringsAll, IsBrought, IsForMemory, IsQuiet, Sends, in_order, waited}
 use Rattle.driven.specs.Laws.{MayChange}
 use Rattle.driven.specs.Telling.{IsSentBy, with_wait}
 use Rattle.driven.proofs.Brought.{brought_by, brought_either, none_brought, none_for_tables, one_for_tables}

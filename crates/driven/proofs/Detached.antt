@@ -34,9 +34,17 @@ not_refused s t d h r (w, q) here does =
 -- what becomes of the state, told with what is asked
 pub does_both : (m : State) (device : ℕ) (r : Result ℕ Refusal) (t : State) (es : List Effect) → DetachesAll m device r t es
     → DoesBoth m device r t
-does_both m device (Ok released) t es all =
-    (record { domain = all.done.domain; had = all.done.had; between = all.done.between; detaches = all.done.detaches; flushes =
-    all.done.flushes }, tt)
+does_both m device (Ok released) t es all = (
+  record {
+    domain = all.done.domain;
+    had = all.done.had;
+    between = all.done.between;
+    detaches = all.done.detaches;
+    flushes =
+        all.done.flushes;
+  },
+  tt,
+)
 does_both m device (Err refusal) t es all = (tt, all.refused.0)
 
 module _ (m s : State) (device : ℕ) (sound : IsSound m) (does : Does m (calls.Detach device) Done s) where

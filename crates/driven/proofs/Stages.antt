@@ -1,5 +1,5 @@
 -- Effects that are done one after the other.
-use Rattle.std.proofs.Common.{◌≡◌, inl, inr, ℕ, zero, suc, ◌≤◌, List, [], ◌∷◌, ◌++◌, length, take, subst, sym, arith}
+use Rattle.std.proofs.Common.{inl, inr, ℕ, zero, suc, ◌≤◌, List, [], ◌∷◌, ◌++◌, length, take, subst, sym, arith}
 use Rattle.driven.specs.declared.effect.Effect.{Effect}
 use Rattle.driven.specs.declared.effect.Effect.TheVariants.{Barrier}
 use Rattle.driven.specs.Effects.{Brings, IsBrought}
