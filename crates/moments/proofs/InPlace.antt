@@ -1,5 +1,6 @@
 -- A walk that reads the words where they lie while an unmap writes them.
-use Rattle.std.proofs.Common.{◌≡◌, ◌⊎◌, inl, inr, ⊎_elim, ℕ, zero, suc, ◌+◌, ◌-◌, ◌<◌, ◌≤◌, List, [], ◌∷◌, Some, None}
+use Rattle.std.proofs.Common.{◌≡◌, ◌⊎◌, inl, inr, ⊎_elim, ℕ, zero, suc, ◌+◌, ◌-◌, ◌%◌, ◌<◌, ◌≤◌, List, [], ◌∷◌, Option, Some, None}
+use Rattle.dmatypes.specs.declared.page.TheConstants.{SPAN_PAGES}
 use Rattle.std.proofs.Common.{Bool, true, false, cond, nat_lt, refl, sym, ap, subst, ◌∙◌, arith}
 use Rattle.dmatypes.specs.Page.{levels, pages_end}
 use Rattle.dmatypes.specs.World.{Target}
@@ -12,15 +13,15 @@ use Rattle.tables.specs.declared.entries.TheConstants.{TABLE_ENTRIES}
 use Rattle.tables.specs.Pool.{IsTree, Moment, Pool, memory, moment_of, occurs, word}
 use Rattle.tables.specs.Spelled.{AreSpelled}
 use Rattle.tables.specs.Trail.{GoesOn, GoesThrough, IsNamed}
-use Rattle.tables.specs.Tree.{Memory, index_in, leaf_from, leaf_of, stated, states}
+use Rattle.tables.specs.Tree.{LeafEntry, Memory, index_in, leaf_from, leaf_of, stated, states}
 use Rattle.tables.proofs.spelled.Stays.{spelled_at}
 use Rattle.tables.proofs.unmaps.UnderEntry.{below_in, root_taken}
 use Rattle.tables.proofs.walks.Levels.{stated_large, stated_small}
 use Rattle.tables.proofs.walks.Onward.{index_lt}
 use Rattle.tables.proofs.walks.Steps.{index-zero, leaf-zero, leaf_under}
 use Rattle.tables.proofs.walks.Words.{memory_at}
-use Rattle.moments.specs.Laws.{UnmapsInPlaceAreOldOrNew}
-use Rattle.moments.specs.Moments.{GoesDown, in_place, words_at}
+use Rattle.moments.specs.Laws.{LeavesInPlaceAreOldOrNewOrSingle, UnmapsInPlaceAreOldOrNew}
+use Rattle.moments.specs.Moments.{GoesDown, IsSingle, in_place, words_at}
 
 differ : (x : Target) (c : ℕ) → LargeLeaf x ≡ Table c → ⊥
 differ x c e = cc
@@ -184,11 +185,16 @@ module _ (old : Pool) (last : Moment) (ms : List Moment) (through : GoesThrough 
   abbrev Seen : Memory
   Seen = in_place old.words ms t
 
-  -- what it finds from a table on: what was there before, or nothing, and then nothing is there at the end
+  -- the leaf of one page in the place of one of 2 MiB
+  abbrev Single : ℕ → ℕ → ℕ → Type 0
+  Single l table p = IsSingle p (leaf_from Seen l table p) (leaf_from (memory old.words) l table p)
+
+  -- what it meets from a table on: what was there before, or such a leaf, or nothing, and then nothing is there at the end
   abbrev Found : ℕ → ℕ → ℕ → Type 0
   Found l table p =
-      (stated p (leaf_from Seen l table p) ≡ stated p (leaf_from (memory old.words) l table p))
-      ⊎ ((leaf_from Seen l table p ≡ None) × (leaf_from (memory last.words) l table p ≡ None))
+      (leaf_from Seen l table p ≡ leaf_from (memory old.words) l table p)
+      ⊎ (Single l table p
+      ⊎ ((leaf_from Seen l table p ≡ None) × (leaf_from (memory last.words) l table p ≡ None)))
 
   seen_at : (l table k w : ℕ) (e : SsEntry) → word (words_at old.words ms (t l)) table k ≡ w → look l w ≡ e → Seen l table k ≡ e
   unfolding in_place
@@ -208,10 +214,10 @@ module _ (old : Pool) (last : Moment) (ms : List Moment) (through : GoesThrough 
   -- a word that is cleared, and stays so
   gone : (l table p : ℕ) → (word (words_at old.words ms (t (suc l))) table (index_in l p) ≡ 0) → (word last.words table (index_in l p) ≡ 0)
       → Found (suc l) table p
-  gone l table p now then = inr (
+  gone l table p now then = inr (inr (
     leaf_under Seen l table p Absent (seen_at (suc l) table (index_in l p) 0 Absent now (look-zero (suc l))),
     leaf_under (memory last.words) l table p Absent (at_end (suc l) table (index_in l p) 0 Absent then (look-zero (suc l))),
-  )
+  ))
 
   -- a word that is as it was
   kept : (l table p : ℕ) (e : SsEntry) → memory old.words (suc l) table (index_in l p) ≡ e
@@ -234,12 +240,13 @@ module _ (old : Pool) (last : Moment) (ms : List Moment) (through : GoesThrough 
       let leaf : Seen 1 s.table k ≡ Leaf (target (x.frame + k) x.rights) =
       seen_at 1 s.table k (word s.named.words s.table k) (Leaf (target (x.frame + k) x.rights)) (now (t 1) s.table k later ∙ there)
       (s.filled k (index_lt 0 p)) in
-      inl (ap (stated p) (leaf_under Seen 1 table p (Table s.table) named
-      ∙ leaf_under Seen 0 s.table p (Leaf (target (x.frame + k) x.rights)) leaf)
-      ∙ stated_small p 0 (target (x.frame + k) x.rights) refl
-      ∙ ap (λ n. Some (target (x.frame + n) x.rights)) (index-zero p)
-      ∙ sym (stated_large p 1 x refl) ∙ ap (stated p) (sym (leaf_under (memory old.words) 1 table p (LargeLeaf x) was))))
-      (λ absent. inr (
+      inr (inl (
+        x,
+        leaf_under Seen 1 table p (Table s.table) named ∙ leaf_under Seen 0 s.table p (Leaf (target (x.frame + k) x.rights)) leaf
+            ∙ ap (λ n. Some (record { size = 0; frame = x.frame + n; rights = x.rights })) (index-zero p),
+        leaf_under (memory old.words) 1 table p (LargeLeaf x) was,
+      )))
+      (λ absent. inr (inr (
         leaf_under Seen 1 table p (Table s.table) named
             ∙ leaf_under Seen 0 s.table p Absent (seen_at 1 s.table k 0 Absent (now (t 1) s.table k later ∙ absent.0) (look-zero 1)),
         ⊎_elim
@@ -248,7 +255,7 @@ module _ (old : Pool) (last : Moment) (ms : List Moment) (through : GoesThrough 
             ∙ leaf_under (memory last.words) 0 s.table p Absent (at_end 1 s.table k 0 Absent absent.1 (look-zero 1)))
             (λ cleared. leaf_under (memory last.words) 1 table p Absent (at_end 2 table i 0 Absent cleared (look-zero 2)))
             (ends s.named last s.rest table i s.through (index_lt 1 p) s.frame small),
-      ))
+      )))
       (evolves s.named last s.rest (t 1 - s.since) s.table k s.through (index_lt 0 p) s.taken
       (leaf_small 1 (word s.named.words s.table k) (target (x.frame + k) x.rights) (s.filled k (index_lt 0 p)))))
       (λ absent. gone 1 table p (now (t 2) table i s.soon ∙ absent.0) absent.1)
@@ -275,15 +282,15 @@ module _ (old : Pool) (last : Moment) (ms : List Moment) (through : GoesThrough 
   large table p x tree was =
       ⊎_elim
       (λ whole. ⊎_elim
-      (λ same. inl (ap (stated p) (leaf_under Seen 1 table p (LargeLeaf x) (kept 1 table p (LargeLeaf x) was same)
-      ∙ sym (leaf_under (memory old.words) 1 table p (LargeLeaf x) was))))
+      (λ same. inl (leaf_under Seen 1 table p (LargeLeaf x) (kept 1 table p (LargeLeaf x) was same)
+      ∙ sym (leaf_under (memory old.words) 1 table p (LargeLeaf x) was)))
       (λ absent. gone 1 table p absent.0 absent.1) whole)
       (λ split. below_split table p x was split)
       (splits (moment_of old) last ms (t 2) table (index_in 1 p) x through (index_lt 1 p) (root_taken old 1 table tree)
       (sym (memory_at old.words 2 table (index_in 1 p)) ∙ was))
 
   pub walk : (l table p : ℕ) → IsTree old l table → AreSpelled old.words l table → Found l table p
-  walk zero table p tree spelled = inl (ap (stated p) (leaf-zero Seen table p ∙ sym (leaf-zero (memory old.words) table p)))
+  walk zero table p tree spelled = inl (leaf-zero Seen table p ∙ sym (leaf-zero (memory old.words) table p))
   walk (suc l) table p tree spelled = by_entry (memory old.words (suc l) table i) refl (λ c tree' spelled'. walk l c p tree' spelled')
     where
       i : ℕ
@@ -301,8 +308,8 @@ module _ (old : Pool) (last : Moment) (ms : List Moment) (through : GoesThrough 
       same_leaves : (e : SsEntry) → memory old.words (suc l) table i ≡ e → ((c : ℕ) → e ≡ Table c → ⊥) → IsSmall w → Found (suc l) table p
       same_leaves e is none small =
           ⊎_elim
-          (λ same. inl (ap (stated p) (leaf_under Seen l table p e (kept l table p e is same)
-          ∙ alike l p e none ∙ sym (leaf_under (memory old.words) l table p e is))))
+          (λ same. inl (leaf_under Seen l table p e (kept l table p e is same)
+          ∙ alike l p e none ∙ sym (leaf_under (memory old.words) l table p e is)))
           (λ absent. gone l table p absent.0 absent.1)
           (evolves (moment_of old) last ms (t (suc l)) table i through (index_lt l p) taken small)
 
@@ -326,18 +333,32 @@ module _ (old : Pool) (last : Moment) (ms : List Moment) (through : GoesThrough 
           let was : leaf_from (memory old.words) (suc l) table p ≡ leaf_from (memory old.words) l c p =
           leaf_under (memory old.words) l table p (Table c) is in
           ⊎_elim
-          (λ found. inl (ap (stated p) seen ∙ found ∙ ap (stated p) (sym was)))
-          (λ absent. inr (
+          (λ found. inl (seen ∙ found ∙ sym was))
+          (λ other. ⊎_elim
+          (λ (one : Single l c p). inr (inl (one.0, seen ∙ one.1, was ∙ one.2)))
+          (λ absent. inr (inr (
             seen ∙ absent.0,
             ⊎_elim
                 (λ stays. leaf_under (memory last.words) l table p (Table c)
                 (at_end (suc l) table i w (Table c) stays (looked (Table c) is)) ∙ absent.1)
                 (λ cleared. leaf_under (memory last.words) l table p Absent (at_end (suc l) table i 0 Absent cleared (look-zero (suc l))))
                 (ends (moment_of old) last ms table i through (index_lt l p) taken small),
-          ))
+          )))
+          other)
           (below c (below_in old l table i c tree (index_lt l p) is) ((spelled_at old.words l table i spelled (index_lt l p)).1 c is)))
           (λ absent. gone l table p absent.0 absent.1)
           (evolves (moment_of old) last ms (t (suc l)) table i through (index_lt l p) taken small)
+
+-- what it states is what the leaf of 2 MiB states
+single_states : (p : ℕ) (seen was : Option LeafEntry) → IsSingle p seen was → stated p seen ≡ stated p was
+single_states p seen was (x, now, then) =
+    ap (stated p) now ∙ stated_small p 0 (target (x.frame + p % SPAN_PAGES) x.rights) refl ∙ sym (stated_large p 1 x refl)
+    ∙ ap (stated p) (sym then)
+
+pub in_place_leaves : LeavesInPlaceAreOldOrNewOrSingle
+in_place_leaves old new order width root moment page tree spelled down =
+    ⊎_elim (λ same. inl same) (λ other. ⊎_elim (λ one. inr (inr one)) (λ absent. inr (inl (absent.0 ∙ sym absent.1))) other)
+    (walk old (moment_of new) order.moments order.through moment down (levels width) root page tree spelled)
 
 pub in_place_old_or_new : UnmapsInPlaceAreOldOrNew
 in_place_old_or_new old new order width root moment page tree spelled down = by_test (nat_lt page (pages_end width))
@@ -349,6 +370,10 @@ in_place_old_or_new old new order width root moment page tree spelled down = by_
         → (cond b (states seen (levels width) root page) None ≡ cond b (states (memory old.words) (levels width) root page) None)
         ⊎ (cond b (states seen (levels width) root page) None ≡ cond b (states (memory new.words) (levels width) root page) None)
     by_test true =
-        ⊎_elim (λ found. inl found) (λ absent. inr (ap (stated page) (absent.0 ∙ sym absent.1)))
-        (walk old (moment_of new) order.moments order.through moment down (levels width) root page tree spelled)
+        ⊎_elim (λ same. inl (ap (stated page) same))
+        (λ other. ⊎_elim
+        (λ is. inr (ap (stated page) is))
+        (λ one. inl (single_states page (leaf_from seen (levels width) root page) (leaf_from (memory old.words) (levels width) root page) one))
+        other)
+        (in_place_leaves old new order width root moment page tree spelled down)
     by_test false = inl refl

@@ -4,12 +4,12 @@ use Rattle.dmatypes.specs.Page.{IsWithin, Range, levels, pages_end}
 use Rattle.dmatypes.specs.World.{Target}
 use Rattle.dmatypes.specs.declared.width.Width.{Width}
 use Rattle.vtdbits.specs.declared.entry.SsEntry.TheVariants.{LargeLeaf, Table}
-use Rattle.tables.specs.Tree.{index_in, root_states, table_from}
+use Rattle.tables.specs.Tree.{index_in, leaf_from, root_states, table_from}
 use Rattle.tables.specs.Pool.{IsTree, Pool, memory}
 use Rattle.tables.specs.Trail.{FillsInOrder, WritesInOrder}
 use Rattle.tables.specs.Changes.{IsApart, TakesAndGivesFrames}
 use Rattle.tables.specs.Spelled.{AreSpelled}
-use Rattle.moments.specs.Moments.{FillsFirst, GoesDown, IsDestroyed, IsFilledFirst, IsMap, IsOldOrAbsent, IsOldOrNew, IsUnmap, Place}
+use Rattle.moments.specs.Moments.{FillsFirst, GoesDown, IsDestroyed, IsFilledFirst, IsMap, IsOldOrAbsent, IsOldOrNew, IsSingle, IsUnmap, Place}
 use Rattle.moments.specs.Moments.{Reached, ReadsSpelled, in_place, meanwhile, reached_by}
 
 -- Whatever words of a map have reached memory when a walk reads them, each level at its own moment, each page is found as before the
@@ -50,6 +50,19 @@ UnmapsInPlaceAreOldOrNew =
     → GoesDown moment
     → (root_states (in_place old.words order.moments moment) width root page ≡ root_states (memory old.words) width root page)
     ⊎ (root_states (in_place old.words order.moments moment) width root page ≡ root_states (memory new.words) width root page)
+
+-- The leaf that it meets, which may be cached, is met before the unmap or after it. Or it is one of a single page in a table that took the
+-- place of a leaf of 2 MiB, and states the page as that does: before the unmap there is no such leaf, and after it there may be none.
+abbrev pub LeavesInPlaceAreOldOrNewOrSingle : Type 0
+LeavesInPlaceAreOldOrNewOrSingle =
+    (old new : Pool) (order : WritesInOrder old new) (width : Width) (root : ℕ) (moment : ℕ → ℕ) (page : ℕ)
+    → IsTree old (levels width) root
+    → AreSpelled old.words (levels width) root
+    → GoesDown moment
+    → (leaf_from (in_place old.words order.moments moment) (levels width) root page ≡ leaf_from (memory old.words) (levels width) root page)
+    ⊎ ((leaf_from (in_place old.words order.moments moment) (levels width) root page ≡ leaf_from (memory new.words) (levels width) root page)
+    ⊎ IsSingle page (leaf_from (in_place old.words order.moments moment) (levels width) root page)
+    (leaf_from (memory old.words) (levels width) root page))
 
 -- Say that the words of the tree spell its entries before the call and after it, as they do in every tree of a state. Then each word
 -- that a walk reads meanwhile spells what the walk sees there. So a unit that reads more into words than entries finds no more by it.

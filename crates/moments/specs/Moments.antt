@@ -1,14 +1,15 @@
 -- The memory that a walk reads while the words of one call reach it. A walk reads one word in a table of each level, each at a moment of
 -- its own.
-use Rattle.std.specs.Prelude.{◌≡◌, ◌⊎◌, ℕ, zero, suc, ◌+◌, ◌<◌, ◌≤◌, ◌==◌, ◌&&◌, ◌||◌, Bool, true, false, if◌then◌else◌, List, []}
+use Rattle.std.specs.Prelude.{◌≡◌, ◌⊎◌, ℕ, zero, suc, ◌+◌, ◌%◌, ◌<◌, ◌≤◌, ◌==◌, ◌&&◌, ◌||◌, Bool, true, false, if◌then◌else◌, List, []}
 use Rattle.std.specs.Prelude.{◌∷◌, take, Option, None, Some}
 use Rattle.dmatypes.specs.Page.{IsWithin, Range, levels, pages_end}
 use Rattle.dmatypes.specs.World.{Target}
+use Rattle.dmatypes.specs.declared.page.TheConstants.{SPAN_PAGES}
 use Rattle.dmatypes.specs.declared.width.Width.{Width}
 use Rattle.vtdbits.specs.Entry.{Spells, look}
 use Rattle.vtdbits.specs.declared.entry.SsEntry.TheVariants.{LargeLeaf, Table}
 use Rattle.tables.specs.declared.entries.TheConstants.{TABLE_ENTRIES}
-use Rattle.tables.specs.Tree.{Memory, index_in, leaf_from, root_states, states, table_from, uses}
+use Rattle.tables.specs.Tree.{LeafEntry, Memory, index_in, leaf_from, root_states, states, table_from, uses}
 use Rattle.tables.specs.Pool.{IsZeroed, Moment, Pool, memory, occurs, word}
 use Rattle.tables.specs.Changes.{MapsPages, UnmapsPages}
 
@@ -94,6 +95,13 @@ ReadsSpelled old new reached width root page =
     (l table : ℕ) → table_from (meanwhile old new reached) (levels width) root page (suc l) ≡ Some table
     → Spells (suc l) (word_read old new reached (suc l) table (index_in l page))
     (meanwhile old new reached (suc l) table (index_in l page))
+
+-- where a leaf of 2 MiB was met before the call, one of a single page is met that states the page as it does
+abbrev pub IsSingle : ℕ → Option LeafEntry → Option LeafEntry → Type 0
+IsSingle page seen was =
+    (leaf : Target)
+    × (seen ≡ Some (record { size = 0; frame = leaf.frame + page % SPAN_PAGES; rights = leaf.rights }))
+    × (was ≡ Some (record { size = 1; frame = leaf.frame; rights = leaf.rights }))
 
 -- ---- words that are written one after the other
 

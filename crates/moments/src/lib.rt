@@ -3,7 +3,7 @@
 //! proof is from the public contracts of `tables` alone.
 #![tactic(auto)]
 
-ghost use Rattle.moments.specs.Laws.{DestroysAreOldOrAbsent, MapsAreOldOrNew, MapsInPlaceAreOldOrNew, OneOrderMatters, OneOrderSuffices};
+ghost use Rattle.moments.specs.Laws.{DestroysAreOldOrAbsent, LeavesInPlaceAreOldOrNewOrSingle, MapsAreOldOrNew, MapsInPlaceAreOldOrNew, OneOrderMatters, OneOrderSuffices};
 ghost use Rattle.moments.specs.Laws.{OthersAreSteady, UnmapsAreOldOrNew, UnmapsInPlaceAreOldOrNew, WordsReadAreSpelled};
 
 /// Whatever words of a map have reached memory, each page is found as before it or as after it.
@@ -26,7 +26,8 @@ pub fn maps_in_place_are_old_or_new()
 /// A walk that reads the words where they lie while an unmap writes them, each level no sooner than the level above, finds each page as
 /// before it or as after it.
 pub fn unmaps_in_place_are_old_or_new()
-    ensures { UnmapsInPlaceAreOldOrNew }
+    ensures found { UnmapsInPlaceAreOldOrNew }
+    ensures leaves { LeavesInPlaceAreOldOrNewOrSingle }
 {}
 
 /// Each word that a walk reads meanwhile spells what it sees there.

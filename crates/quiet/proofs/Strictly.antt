@@ -1,6 +1,9 @@
 -- A strict unmap: what its descriptor leaves.
-use Rattle.std.proofs.Common.{◌≡◌, inl, inr, ℕ, ◌+◌, ◌<◌, ◌≤◌, false, Some, refl, sym, ap, subst, ◌∙◌, arith}
+use Rattle.std.proofs.Common.{◌≡◌, inl, inr, ℕ, ◌+◌, ◌^◌, ◌<◌, ◌≤◌, Bool, false, Some, refl, sym, ap, subst, ◌∙◌, arith}
+use Rattle.std.proofs.lemmas.Bool.Decides.{nat_tests}
 use Rattle.std.proofs.lemmas.Option.{none-some, same_Some}
+use Rattle.dmatypes.specs.Block.{Block}
+use Rattle.vtdbits.specs.declared.descriptor.Descriptor.TheVariants.{IotlbDomain, IotlbPages}
 use Rattle.dmatypes.specs.Page.{Range, levels, range_at}
 use Rattle.dmatypes.specs.declared.call.Call.TheVariants as calls
 use Rattle.dmatypes.specs.declared.call.Mode.{Mode}
@@ -14,15 +17,15 @@ use Rattle.vtdbits.specs.declared.descriptor.Descriptor.{Descriptor}
 use Rattle.moments.specs.Moments.{IsUnmap}
 use Rattle.unit.specs.Caches.{CachedLeaf, CachedNonLeaf}
 use Rattle.unit.specs.Filters.{drops_leaf, drops_non_leaf}
-use Rattle.engine.proofs.caches.StrictRange.{strict_apart, strict_table}
+use Rattle.engine.proofs.caches.StrictRange.{sent_covers, strict_apart, strict_table}
 use Rattle.engine.proofs.domains.OneChanged.{both_there, domain_low}
 use Rattle.engine.proofs.frames.Owners.{tree_of}
 use Rattle.engine.proofs.requests.Read.{hold_high, hold_low}
 use Rattle.engine.specs.Domains.{Domain, domain_at}
-use Rattle.engine.specs.Ending.{ByMode, EndsBy, PutsOff, UnmapsStrictly}
+use Rattle.engine.specs.Ending.{ByMode, EndsBy, PutsOff, UnmapsStrictly, hint_of}
 use Rattle.engine.specs.State.{Becomes, State, operands_in}
 use Rattle.engine.specs.Steps.{Does}
-use Rattle.quiet.specs.Laws.{StrictUnmapsForgetPages, StrictUnmapsForgetTables}
+use Rattle.quiet.specs.Laws.{StrictUnmapsForgetPages, StrictUnmapsForgetSinglePages, StrictUnmapsForgetTables}
 use Rattle.quiet.specs.Quiet.{HoldsPageOf, IsDoneLast, IsEntry, IsInPlace, IsSound}
 use Rattle.quiet.proofs.Calls.{free_zeroed, own_unmap, unmap_pages}
 use Rattle.quiet.proofs.Every.{domain_then}
@@ -49,6 +52,13 @@ strictly m t d address pages released h whole (k, new, here, ends, is) there str
           (subst (λ (x : Domain). EndsBy (operands_in m x) d (range_at address pages) released (operands_in t new)) own ends),
       domain_then m t d h new whole there (ap (λ (x : State). x.domains) is),
     )
+
+dropped_by_domain : (d : ℕ) (l : CachedLeaf) → l.domain ≡ d → drops_leaf (IotlbDomain d) l ≡ false → ⊥
+dropped_by_domain d l e left = grind (arith, nat_tests)
+
+dropped_in_block : (d : ℕ) (b : Block) (hint : Bool) (l : CachedLeaf) → l.domain ≡ d → b.first ≤ l.first
+    → l.first + l.pages ≤ b.first + 2 ^ b.order → drops_leaf (IotlbPages d b hint) l ≡ false → ⊥
+dropped_in_block d b hint l e low high left = grind (arith, nat_tests)
 
 module _ (m t : State) (d address pages released : ℕ) (h : Domain) (whole : IsSound m)
     (does : Does m (calls.Unmap d address pages) (Unmapped released) t) (there : domain_at m.domains d ≡ Some h) (x : Descriptor)
@@ -84,6 +94,20 @@ module _ (m t : State) (d address pages released : ℕ) (h : Domain) (whole : Is
       let in_range = subst (λ (r : Range). (r.first ≤ p) × (p < r.first + r.pages)) (sym u.of_range) inside in
       none-some _ (sym (unmap.unmaps.gone p in_range.0 in_range.1)
       ∙ ap (λ ws. leaf_from (memory ws) (levels h.width) h.root p) (sym u.releases.words) ∙ there')
+
+  -- no leaf of one of its pages is left
+  none_single : (leaf : CachedLeaf) → leaf.domain ≡ d → leaf.pages ≡ 1 → drops_leaf x leaf ≡ false
+      → HoldsPageOf leaf (range_at address pages) → ⊥
+  none_single leaf here one left (p, holds, inside) =
+      let in_range = subst (λ (r : Range). (r.first ≤ p) × (p < r.first + r.pages)) (sym u.of_range) inside in
+      let low = hold_low leaf.first leaf.pages p holds in
+      let high = hold_high leaf.first leaf.pages p holds in
+      elim (sent_covers d u.retired.range u.retired.cut u.descriptor unmap.below.0 u.sent) [
+        | inl all ↦ dropped_by_domain d leaf here (ap (λ y. drops_leaf y leaf) (sym all ∙ sym is_sent) ∙ left)
+        | inr (b, is, covers) ↦
+          dropped_in_block d b (hint_of u.retired.cut) leaf here (omega (arith, one, low, high, covers.low, in_range.0))
+              (omega (arith, one, low, high, covers.high, in_range.1)) (ap (λ y. drops_leaf y leaf) (sym is ∙ sym is_sent) ∙ left)
+      ]
 
   table_left : (table : CachedNonLeaf) → table.domain ≡ d → drops_non_leaf x table ≡ false → IsInPlace m.pool.words h table
       → IsInPlace t.pool.words h table
@@ -122,6 +146,11 @@ strict_pages m t d address pages released h x leaf whole does there strict last 
       ]
     ] in
     (at, holds_none m t d address pages released h whole does there x last s.0 s.1 s.2 leaf at)
+
+pub strict_single_pages : StrictUnmapsForgetSinglePages
+strict_single_pages m t d address pages released h x leaf whole does there strict last here one left =
+    let s = strictly m t d address pages released h whole does.becomes there strict in
+    none_single m t d address pages released h whole does there x last s.0 s.1 s.2 leaf here one left
 
 pub strict_tables : StrictUnmapsForgetTables
 strict_tables m t d address pages released h x table whole does there strict last here cached left =

@@ -102,6 +102,21 @@ StrictUnmapsForgetPages =
     → drops_leaf d leaf ≡ false
     → IsEntry t.pool.words h leaf × (HoldsPageOf leaf (range_at address pages) → ⊥)
 
+-- Nor is a leaf of a single one of these pages left, whatever it states: where tables lie in place, a unit may meet such a leaf in a table
+-- that took the place of a leaf of 2 MiB, before its word is cleared (`moments`), and it is an entry neither before the call nor after it.
+abbrev pub StrictUnmapsForgetSinglePages : Type 0
+StrictUnmapsForgetSinglePages =
+    (m t : State) (domain address pages released : ℕ) (h : Domain) (d : Descriptor) (leaf : CachedLeaf)
+    → IsSound m
+    → Does m (calls.Unmap domain address pages) (Unmapped released) t
+    → domain_at m.domains domain ≡ Some h
+    → h.mode ≡ Strict
+    → IsDoneLast t d
+    → leaf.domain ≡ domain
+    → leaf.pages ≡ 1
+    → drops_leaf d leaf ≡ false
+    → HoldsPageOf leaf (range_at address pages) → ⊥
+
 -- Nor is a table of the domain one that was cut. Each that was cached before the call or during it, and that the descriptor leaves, is
 -- in its place in the tree that is left, and no free frame.
 abbrev pub StrictUnmapsForgetTables : Type 0

@@ -5,7 +5,8 @@
 
 ghost use Rattle.quiet.specs.Laws.{CachedDuringIsOldOrNew, CachesStay, CallsAreOldOrNew, CallsReadSpelledWords, DetachesForget};
 ghost use Rattle.quiet.specs.Laws.{DropsAreOldOrAbsent, DropsForget, FlushesForget, FullListsForget, MapsForgetFaults};
-ghost use Rattle.quiet.specs.Laws.{MapsOfOneForgetFaults, ReapsForget, StrictUnmapsForgetPages, StrictUnmapsForgetTables};
+ghost use Rattle.quiet.specs.Laws.{MapsOfOneForgetFaults, ReapsForget, StrictUnmapsForgetPages};
+ghost use Rattle.quiet.specs.Laws.{StrictUnmapsForgetSinglePages, StrictUnmapsForgetTables};
 
 /// Whatever words of a call have reached memory, a walk finds each page of a domain as before the call or as after it. Of the domain that
 /// a drop ends, as before or not at all.
@@ -25,9 +26,11 @@ pub fn caches_stay()
     ensures { CachesStay }
 {}
 
-/// Once a strict unmap's descriptor is done, no cached leaf holds an unmapped page.
+/// Once a strict unmap's descriptor is done, no cached leaf holds an unmapped page: of those of the tree before it or after it, and of
+/// those of a single page.
 pub fn strict_unmaps_forget_pages()
-    ensures { StrictUnmapsForgetPages }
+    ensures leaves { StrictUnmapsForgetPages }
+    ensures single { StrictUnmapsForgetSinglePages }
 {}
 
 /// Nor is a cached table one that was cut.
