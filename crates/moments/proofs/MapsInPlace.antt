@@ -1,15 +1,17 @@
 -- A walk that reads the words where they lie while a map writes them: at each moment each word is as before the map or as after it.
 use Rattle.std.proofs.Common.{◌≡◌, ◌⊎◌, inl, inr, ⊎_elim, ℕ, zero, suc, ◌+◌, ◌<◌, List, [], ◌∷◌, refl, sym, ap, ◌∙◌}
-use Rattle.dmatypes.specs.Page.{levels}
+use Rattle.dmatypes.specs.Page.{levels, pages_end}
 use Rattle.vtdbits.specs.Entry.{look}
 use Rattle.tables.specs.declared.entries.TheConstants.{TABLE_ENTRIES}
 use Rattle.tables.specs.Pool.{Moment, Pool, memory, moment_of, word}
+use Rattle.tables.specs.Tree.{Memory, leaf_from}
 use Rattle.tables.specs.Trail.{FillsIn, FillsInOrder, GoesThrough}
 use Rattle.tables.proofs.walks.Words.{memory_at}
 use Rattle.moments.specs.Laws.{MapsInPlaceAreOldOrNew}
 use Rattle.moments.specs.Moments.{in_place, words_at}
 use Rattle.moments.proofs.Between.{IsBetween}
 use Rattle.moments.proofs.Maps.{map_leaf}
+use Rattle.moments.proofs.Passed.{map_passed}
 use Rattle.moments.proofs.Walks.{by_width, near}
 
 -- at the end a word is as it was, but where it was 0
@@ -57,7 +59,21 @@ between_in_place old new order moment l t k inside =
 
 pub maps_in_place : MapsInPlaceAreOldOrNew
 maps_in_place old new order width root range says moment page map =
-    by_width width (in_place old.words order.moments moment) (memory old.words) (memory new.words) root page (λ small.
-    map_leaf old new (in_place old.words order.moments moment) (levels width) root range.first (range.first + range.pages) says map.zeroed
-    map.maps (λ p low high. map.absent p (low, high)) (between_in_place old new order moment) page
-    (near width range page map.below small))
+    record {
+      found = by_width width now (memory old.words) (memory new.words) root page leaf;
+      leaf = leaf;
+      tables = λ l t small h. inr (map_passed old new now (levels width) root range.first (range.first + range.pages) page says map.zeroed
+          between map.maps l t h);
+    }
+  where
+    now : Memory
+    now = in_place old.words order.moments moment
+
+    between : IsBetween old new now
+    between = between_in_place old new order moment
+
+    leaf : page < pages_end width → (leaf_from now (levels width) root page ≡ leaf_from (memory old.words) (levels width) root page)
+        ⊎ (leaf_from now (levels width) root page ≡ leaf_from (memory new.words) (levels width) root page)
+    leaf small =
+        map_leaf old new now (levels width) root range.first (range.first + range.pages) says map.zeroed map.maps
+        (λ p low high. map.absent p (low, high)) between page (near width range page map.below small)

@@ -68,20 +68,24 @@ IsFilledFirst old new reached =
 
 -- ---- what it finds
 
--- a walk for a page that reads what has reached memory
-pub record IsOldOrNew (old new : List ℕ) (reached : Reached) (width : Width) (root page : ℕ) : Type 0 where
+-- a walk for a page that reads this memory while a call is written
+pub record FindsOldOrNew (old new : List ℕ) (now : Memory) (width : Width) (root page : ℕ) : Type 0 where
   -- it finds the page as before the call or as after it
-  pub found : (root_states (meanwhile old new reached) width root page ≡ root_states (memory old) width root page)
-      ⊎ (root_states (meanwhile old new reached) width root page ≡ root_states (memory new) width root page)
+  pub found : (root_states now width root page ≡ root_states (memory old) width root page)
+      ⊎ (root_states now width root page ≡ root_states (memory new) width root page)
   -- the leaf that it meets, which may be cached, is met before the call or after it
   pub leaf : page < pages_end width
-      → (leaf_from (meanwhile old new reached) (levels width) root page ≡ leaf_from (memory old) (levels width) root page)
-      ⊎ (leaf_from (meanwhile old new reached) (levels width) root page ≡ leaf_from (memory new) (levels width) root page)
+      → (leaf_from now (levels width) root page ≡ leaf_from (memory old) (levels width) root page)
+      ⊎ (leaf_from now (levels width) root page ≡ leaf_from (memory new) (levels width) root page)
   -- each table that it passes, which may be cached, is passed before the call or after it
   pub tables : (level table : ℕ) → page < pages_end width
-      → table_from (meanwhile old new reached) (levels width) root page level ≡ Some table
+      → table_from now (levels width) root page level ≡ Some table
       → (table_from (memory old) (levels width) root page level ≡ Some table)
       ⊎ (table_from (memory new) (levels width) root page level ≡ Some table)
+
+-- one that reads what has reached memory
+abbrev pub IsOldOrNew : List ℕ → List ℕ → Reached → Width → ℕ → ℕ → Type 0
+IsOldOrNew old new reached width root page = FindsOldOrNew old new (meanwhile old new reached) width root page
 
 -- it finds the page as before the call, or not at all
 abbrev pub IsOldOrAbsent : List ℕ → List ℕ → Reached → Width → ℕ → ℕ → Type 0

@@ -105,8 +105,8 @@ module _ (m t : State) (d address pages released : ℕ) (h : Domain) (whole : Is
       elim (sent_covers d u.retired.range u.retired.cut u.descriptor unmap.below.0 u.sent) [
         | inl all ↦ dropped_by_domain d leaf here (ap (λ y. drops_leaf y leaf) (sym all ∙ sym is_sent) ∙ left)
         | inr (b, is, covers) ↦
-          dropped_in_block d b (hint_of u.retired.cut) leaf here (omega (arith, one, low, high, covers.low, in_range.0))
-              (omega (arith, one, low, high, covers.high, in_range.1)) (ap (λ y. drops_leaf y leaf) (sym is ∙ sym is_sent) ∙ left)
+            dropped_in_block d b (hint_of u.retired.cut) leaf here (omega (arith, one, low, high, covers.low, in_range.0))
+            (omega (arith, one, low, high, covers.high, in_range.1)) (ap (λ y. drops_leaf y leaf) (sym is ∙ sym is_sent) ∙ left)
       ]
 
   table_left : (table : CachedNonLeaf) → table.domain ≡ d → drops_non_leaf x table ≡ false → IsInPlace m.pool.words h table
