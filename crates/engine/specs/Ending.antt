@@ -24,6 +24,7 @@ use Rattle.tables.specs.Changes.{IsApart, KeepsSpellings, TakesAndGivesFrames, T
 use Rattle.tables.specs.Lacks.{leaves_splitting}
 use Rattle.tables.specs.Pool.{Pool, memory, occurs, word, IsPool, IsTree, IsZeroed}
 use Rattle.tables.specs.Tree.{uses}
+use Rattle.tables.specs.Trail.{WritesInOrder}
 use Rattle.tables.specs.Cut.{Cut}
 use Rattle.unit.specs.Caches.{Caches}
 use Rattle.unit.specs.Filters.{left_by}
@@ -55,6 +56,7 @@ pub record RetiresAndUnmaps (pool : Pool) (old : Domain) (r : Record) (pool' : P
   pub moves : TakesAndGivesFrames pool pool' (levels old.width) old.root r.cut.frames
   pub spelled : KeepsSpellings pool pool' (levels old.width) old.root
   pub unmaps : UnmapsPages pool pool' (levels old.width) old.root r.range.first (r.range.first + r.range.pages) r.cut.frames
+  pub order : WritesInOrder pool pool'
   pub split : IsTrue r.cut.split ↔ (0 < leaves_split pool old.width old.root r.range)
   pub is_pool : IsPool pool'
   pub same : new ≡ record old { space = new.space }
@@ -67,6 +69,7 @@ pub record UnmapsAlone (pool : Pool) (domain : Domain) (r : Record) (pool' : Poo
   pub moves : TakesAndGivesFrames pool pool' (levels domain.width) domain.root r.cut.frames
   pub spelled : KeepsSpellings pool pool' (levels domain.width) domain.root
   pub unmaps : UnmapsPages pool pool' (levels domain.width) domain.root r.range.first (r.range.first + r.range.pages) r.cut.frames
+  pub order : WritesInOrder pool pool'
   pub split : IsTrue r.cut.split ↔ (0 < leaves_split pool domain.width domain.root r.range)
   pub is_pool : IsPool pool'
 
@@ -179,6 +182,7 @@ pub record Releases (pool : Pool) (space : Space) (r : Record) (pool' : Pool) (s
   pub is_space : IsSpace space'
   pub free : (f : ℕ) → occurs f pool'.free ≡ occurs f pool.free + occurs f r.cut.frames
   pub words : pool'.words ≡ pool.words
+  pub trail : pool'.trail ≡ pool.trail
   pub frames : pool'.frames ≡ pool.frames
   pub is_pool : IsPool pool'
 
@@ -188,6 +192,7 @@ pub record FreesEnded (pool : Pool) (space : Space) (r : Record) (pool' : Pool) 
   pub is_space : IsSpace space'
   pub free : (f : ℕ) → occurs f pool'.free ≡ occurs f pool.free + occurs f r.cut.frames
   pub words : pool'.words ≡ pool.words
+  pub trail : pool'.trail ≡ pool.trail
   pub frames : pool'.frames ≡ pool.frames
   pub is_pool : IsPool pool'
 
@@ -206,6 +211,7 @@ pub record ReleasesAll (pool : Pool) (space : Space) (records : List Record) (po
   pub free : (f : ℕ) → occurs f pool'.free ≡ occurs f pool.free + held_in records f
   pub more : length pool.free ≤ length pool'.free
   pub words : pool'.words ≡ pool.words
+  pub trail : pool'.trail ≡ pool.trail
   pub frames : pool'.frames ≡ pool.frames
   pub zeroed : (f : ℕ) → 0 < occurs f pool'.free → IsZeroed pool'.words f
 

@@ -17,6 +17,8 @@ use Rattle.tables.specs.Changes.{KeepsSpellings, MakesTables, MapsPages, TakesAn
 use Rattle.tables.specs.Lacks.{frames_to_map}
 use Rattle.tables.specs.Pool.{Pool, memory, IsPool, IsTree}
 use Rattle.tables.specs.Segments.{is_large_at}
+use Rattle.tables.specs.Spelled.{AreSpelled}
+use Rattle.tables.specs.Trail.{FillsInOrder}
 use Rattle.tables.specs.Tree.{states}
 use Rattle.engine.specs.Domains.{Domain}
 
@@ -83,6 +85,7 @@ pub record Places (pool : Pool) (old : Domain) (at : Placement) (pool' : Pool) (
   pub spelled : KeepsSpellings pool pool' (levels old.width) old.root
   pub maps : MapsPages pool pool' (levels old.width) old.root at.first (at.first + total_pages at.segments)
       (placed at.segments at.first at.rights)
+  pub order : AreSpelled pool.words (levels old.width) old.root → FillsInOrder pool pool'
   pub makes : MakesTables pool pool' (levels old.width) old.root at.first (at.first + total_pages at.segments)
       (is_large_at at.segments at.first)
   pub is_pool : IsPool pool'

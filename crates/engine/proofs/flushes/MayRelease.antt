@@ -248,6 +248,7 @@ ended_at_once pool pool1 pool2 h space r range same may cuts freed = (
     moves = cuts.moves;
     spelled = cuts.spelled;
     unmaps = cuts.unmaps;
+    order = cuts.order;
     split = cuts.split;
     is_pool = cuts.is_pool;
     same = refl;
@@ -257,6 +258,7 @@ ended_at_once pool pool1 pool2 h space r range same may cuts freed = (
     is_space = freed.is_space;
     free = freed.free;
     words = freed.words;
+    trail = freed.trail;
     frames = freed.frames;
     is_pool = freed.is_pool;
   },

@@ -50,6 +50,7 @@ releases_none pool space all are = record {
   free = λ f. omega (arith, held-nil f);
   more = omega arith;
   words = refl;
+  trail = refl;
   frames = refl;
   zeroed = λ f some. are.zeroed f (omega (arith, some));
 }
@@ -88,6 +89,7 @@ module _ (pool pool1 pool2 : Pool) (space space1 space2 : Space) (done all : Lis
     more = omega (arith, more, so_far.more);
     free = λ f. omega (arith, next.free f, so_far.free f, held f);
     words = next.words ∙ so_far.words;
+    trail = next.trail ∙ so_far.trail;
     frames = next.frames ∙ so_far.frames;
     zeroed = next.is_pool.zeroed;
   } where

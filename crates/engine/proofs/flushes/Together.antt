@@ -108,6 +108,7 @@ pub record GivesBack (pool : Pool) (records : List Record) (pool1 : Pool) : Type
   pub free : (f : ℕ) → occurs f pool1.free ≡ occurs f pool.free + held_in records f
   pub more : length pool.free ≤ length pool1.free
   pub words : pool1.words ≡ pool.words
+  pub trail : pool1.trail ≡ pool.trail
   pub frames : pool1.frames ≡ pool.frames
 
 pub held_append : (xs ys : List Record) (f : ℕ) → held_in (xs ++ ys) f ≡ held_in xs f + held_in ys f
@@ -127,7 +128,7 @@ held_more all i r f less is =
     ∙ sum_by_push (λ (y : Record). occurs f y.cut.frames) (take i all) r
 
 pub gives_none : (pool : Pool) → GivesBack pool [] pool
-gives_none pool = record { free = λ f. omega arith; more = omega arith; words = refl; frames = refl }
+gives_none pool = record { free = λ f. omega arith; more = omega arith; words = refl; trail = refl; frames = refl }
 
 module _ (pool pool1 : Pool) (all : List Record) (i : ℕ) (r : Record) (so_far : GivesBack pool (take i all) pool1)
     (less : i < length all) (is : r ≡ slice_index_or all i r) where
@@ -138,12 +139,13 @@ module _ (pool pool1 : Pool) (all : List Record) (i : ℕ) (r : Record) (so_far 
   gives_held f some = omega (arith, some, held_part all i r f less is)
 
   pub gives_more : (pool2 : Pool) → ((f : ℕ) → occurs f pool2.free ≡ occurs f pool1.free + occurs f r.cut.frames)
-      → length pool1.free ≤ length pool2.free → pool2.words ≡ pool1.words → pool2.frames ≡ pool1.frames
+      → length pool1.free ≤ length pool2.free → pool2.words ≡ pool1.words → pool2.trail ≡ pool1.trail → pool2.frames ≡ pool1.frames
       → GivesBack pool (take (i + 1) all) pool2
-  gives_more pool2 free more words frames = record {
+  gives_more pool2 free more words trail frames = record {
     free = λ f. omega (arith, free f, so_far.free f, held_more all i r f less is);
     more = omega (arith, more, so_far.more);
     words = words ∙ so_far.words;
+    trail = trail ∙ so_far.trail;
     frames = frames ∙ so_far.frames;
   }
 
@@ -167,6 +169,7 @@ released_run pool pool1 space space1 records range are there of is frees retirab
   free = gives.free;
   more = gives.more;
   words = gives.words;
+  trail = gives.trail;
   frames = gives.frames;
   zeroed = λ f more. subst (λ ws. IsZeroed ws f) (sym gives.words) (are.zeroed f (omega (arith, more, gives.free f)));
 }
@@ -273,6 +276,7 @@ releases_both pool pool1 pool2 space space1 space2 first last one two = record {
   free = λ f. omega (arith, two.free f, one.free f, held_append first last f);
   more = omega (arith, two.more, one.more);
   words = two.words ∙ one.words;
+  trail = two.trail ∙ one.trail;
   frames = two.frames ∙ one.frames;
   zeroed = two.zeroed;
 }

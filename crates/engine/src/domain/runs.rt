@@ -60,6 +60,7 @@ fn give_back_all(pool: &mut Pool, records: &[Record])
     ensures free { (f : ℕ) → occurs f pool.new.free ≡ occurs f pool.old.free + held_in records.now f }
     ensures more { length pool.old.free ≤ length pool.new.free }
     ensures words { pool.new.words ≡ pool.old.words }
+    ensures trail { pool.new.trail ≡ pool.old.trail }
     ensures frames { pool.new.frames ≡ pool.old.frames }
 {
     for record in records {

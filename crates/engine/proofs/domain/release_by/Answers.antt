@@ -18,6 +18,7 @@ returns-clause-released c = record {
   is_space = c.release.ensures.space.1;
   free = rw (← c.frames.ensures.all) c.give_back.ensures.free;
   words = c.give_back.ensures.words;
+  trail = c.give_back.ensures.trail;
   frames = c.give_back.ensures.frames;
   is_pool = c.give_back.ensures.pool;
 }

@@ -19,4 +19,4 @@ loop-record-preserved c =
     gives_more c.args.pool.now c.loop-record.pool c.args.records.now c.loop-record.record-index c.record-item.result
     c.loop-record.invariant c.loop-record-test.true c.record-item.is c.give_back.new.self
     (rw (← c.frames.ensures.all) c.give_back.ensures.free) (omega (arith, c.give_back.ensures.count))
-    c.give_back.ensures.words c.give_back.ensures.frames
+    c.give_back.ensures.words c.give_back.ensures.trail c.give_back.ensures.frames

@@ -14,5 +14,6 @@ returns c =
       free = c.give_back_all.ensures.free;
       more = c.give_back_all.ensures.more;
       words = c.give_back_all.ensures.words;
+      trail = c.give_back_all.ensures.trail;
       frames = c.give_back_all.ensures.frames;
     })
