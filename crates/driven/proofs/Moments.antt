@@ -16,7 +16,7 @@ use Rattle.quiet.proofs.Every.{calls_old_or_new}
 use Rattle.driven.specs.declared.effect.Effect.{Effect}
 use Rattle.driven.specs.declared.effect.Effect.TheVariants.{Await, Barrier, Context, Send, Words}
 use Rattle.driven.specs.Effects.{AreEffects, Brings, IsBrought, IsSending, Sends, by_mode, in_mode, in_order, waited}
-use Rattle.driven.specs.Laws.{EffectsAreOldOrNew, EffectsLeadThere, IsReadInOrder}
+use Rattle.driven.specs.Laws.{EffectsAreOldOrNew, EffectsFillFirst, EffectsLeadThere, IsReadInOrder}
 use Rattle.driven.proofs.Splits.{gave_way}
 use Rattle.driven.proofs.Brought.{brought_by, brought_either, brought_left, brought_right, none_brought}
 
@@ -127,6 +127,9 @@ module _ (m t : State) (call : Call) (reply : _) (effects : List Effect) (are : 
       inl (keeps (pre ++ first) (rest ++ post) 1 f i below k all
       (λ told. elim (brought_either pre first f i told) [ inl a ↦ none f i a | inr b ↦ unnamed b ]) after read
       (brought_right pre first below k (filled k less)))
+
+pub effects_fill_first : EffectsFillFirst
+effects_fill_first m t call reply effects reached are keeps = filled_first m t call reply effects are reached keeps
 
 pub effects_old_or_new : EffectsAreOldOrNew
 effects_old_or_new m t call reply effects domain h h' reached page sound does are here then keeps =

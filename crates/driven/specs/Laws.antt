@@ -12,7 +12,7 @@ use Rattle.dmatypes.specs.declared.reply.Reply.{Reply}
 use Rattle.dmatypes.specs.declared.reply.Reply.TheVariants.{Done, Mapped, Unmapped}
 use Rattle.tables.specs.declared.entries.TheConstants.{TABLE_ENTRIES}
 use Rattle.tables.specs.Pool.{word}
-use Rattle.moments.specs.Moments.{GoesDown, IsOldOrNew, Reached, word_read}
+use Rattle.moments.specs.Moments.{GoesDown, IsFilledFirst, IsOldOrNew, Reached, word_read}
 use Rattle.engine.specs.Domains.{Domain, domain_at}
 use Rattle.engine.specs.State.{State}
 use Rattle.engine.specs.Steps.{Does}
@@ -93,6 +93,15 @@ EffectsAreOldOrNew =
     → domain_at t.domains domain ≡ Some h'
     → IsReadInOrder effects reached
     → IsOldOrNew m.pool.words t.pool.words reached h.width h.root page
+
+-- Nor is a table in the place of a leaf of 2 MiB read before it is filled. So the laws of what may be cached once a call is done (`quiet`)
+-- speak of what a walk met that read so.
+abbrev pub EffectsFillFirst : Type 0
+EffectsFillFirst =
+    (m t : State) (call : Call) (reply : Reply) (effects : List Effect) (reached : Reached)
+    → AreEffects m call reply t effects
+    → IsReadInOrder effects reached
+    → IsFilledFirst m.pool.words t.pool.words reached
 
 -- The effects are done in their order, the first first. When a walk reads a level, so many of them are done, and the next one maybe in part.
 -- It reads as brought what these bring, and nothing that only later ones bring

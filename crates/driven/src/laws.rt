@@ -2,7 +2,7 @@
 //! nothing: its contract is the law, and its proof is from the public contracts of `engine` and the crates below it.
 
 ghost use Rattle.driven.specs.Laws.{CallsChangeTheseWords, CallsSubmitAtMostOne, ContextsAreOldOrNew, EachStageIsOldOrNew};
-ghost use Rattle.driven.specs.Laws.{EffectsAreOldOrNew, EffectsDoneAreReadInOrder, EffectsLeadThere};
+ghost use Rattle.driven.specs.Laws.{EffectsAreOldOrNew, EffectsFillFirst, EffectsDoneAreReadInOrder, EffectsLeadThere};
 
 /// Which words of table frames a call changes.
 pub fn calls_change_these_words()
@@ -17,7 +17,8 @@ pub fn calls_submit_at_most_one()
 /// Whatever of a call's effects has reached memory when a walk reads it, each page is found as before the call or as after it. It asks
 /// only that what is brought after a barrier reaches memory after what is brought before it.
 pub fn effects_are_old_or_new()
-    ensures { EffectsAreOldOrNew }
+    ensures found { EffectsAreOldOrNew }
+    ensures filled { EffectsFillFirst }
 {}
 
 /// Whoever does a call's effects in their order keeps the barriers: each page is found as before the call or as after it by a walk that
