@@ -9,7 +9,7 @@ use Rattle.tables.specs.Pool.{IsTree, Pool, memory}
 use Rattle.tables.specs.Trail.{FillsInOrder, WritesInOrder}
 use Rattle.tables.specs.Changes.{IsApart, TakesAndGivesFrames}
 use Rattle.tables.specs.Spelled.{AreSpelled}
-use Rattle.moments.specs.Moments.{FillsFirst, FindsOldOrNew, GoesDown, IsDestroyed, IsFilledFirst, IsMap, IsOldOrAbsent, IsOldOrNew, IsSingle, IsUnmap, Place}
+use Rattle.moments.specs.Moments.{FillsFirst, IsOldOrNewIn, GoesDown, IsDestroyed, IsFilledFirst, IsMap, IsOldOrAbsent, IsOldOrNew, IsSingle, IsUnmap, Place}
 use Rattle.moments.specs.Moments.{Reached, ReadsSpelled, in_place, meanwhile, reached_by}
 
 -- Whatever words of a map have reached memory when a walk reads them, each level at its own moment, each page is found as before the
@@ -37,7 +37,7 @@ MapsInPlaceAreOldOrNew =
     (old new : Pool) (order : FillsInOrder old new) (width : Width) (root : ℕ) (range : Range) (says : ℕ → Option Target)
     (moment : ℕ → ℕ) (page : ℕ)
     → IsMap old new width root range says
-    → FindsOldOrNew old.words new.words (in_place old.words order.moments moment) width root page
+    → IsOldOrNewIn old.words new.words (in_place old.words order.moments moment) width root page
 
 -- A walk that reads the words where they lie while an unmap writes them, each level at a moment no sooner than that of the level above,
 -- finds each page as before the unmap or as after it. The order in which it writes is `Tree::unmap`'s.

@@ -69,7 +69,7 @@ IsFilledFirst old new reached =
 -- ---- what it finds
 
 -- a walk for a page that reads this memory while a call is written
-pub record FindsOldOrNew (old new : List ℕ) (now : Memory) (width : Width) (root page : ℕ) : Type 0 where
+pub record IsOldOrNewIn (old new : List ℕ) (now : Memory) (width : Width) (root page : ℕ) : Type 0 where
   -- it finds the page as before the call or as after it
   pub found : (root_states now width root page ≡ root_states (memory old) width root page)
       ⊎ (root_states now width root page ≡ root_states (memory new) width root page)
@@ -85,7 +85,7 @@ pub record FindsOldOrNew (old new : List ℕ) (now : Memory) (width : Width) (ro
 
 -- one that reads what has reached memory
 abbrev pub IsOldOrNew : List ℕ → List ℕ → Reached → Width → ℕ → ℕ → Type 0
-IsOldOrNew old new reached width root page = FindsOldOrNew old new (meanwhile old new reached) width root page
+IsOldOrNew old new reached width root page = IsOldOrNewIn old new (meanwhile old new reached) width root page
 
 -- it finds the page as before the call, or not at all
 abbrev pub IsOldOrAbsent : List ℕ → List ℕ → Reached → Width → ℕ → ℕ → Type 0
