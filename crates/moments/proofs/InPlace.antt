@@ -373,7 +373,8 @@ in_place_old_or_new old new order width root moment page tree spelled down = by_
         ⊎_elim (λ same. inl (ap (stated page) same))
         (λ other. ⊎_elim
         (λ is. inr (ap (stated page) is))
-        (λ one. inl (single_states page (leaf_from seen (levels width) root page) (leaf_from (memory old.words) (levels width) root page) one))
+        (λ one.
+        inl (single_states page (leaf_from seen (levels width) root page) (leaf_from (memory old.words) (levels width) root page) one))
         other)
         (in_place_leaves old new order width root moment page tree spelled down)
     by_test false = inl refl

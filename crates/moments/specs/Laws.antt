@@ -9,7 +9,8 @@ use Rattle.tables.specs.Pool.{IsTree, Pool, memory}
 use Rattle.tables.specs.Trail.{FillsInOrder, WritesInOrder}
 use Rattle.tables.specs.Changes.{IsApart, TakesAndGivesFrames}
 use Rattle.tables.specs.Spelled.{AreSpelled}
-use Rattle.moments.specs.Moments.{FillsFirst, IsOldOrNewIn, GoesDown, IsDestroyed, IsFilledFirst, IsMap, IsOldOrAbsent, IsOldOrNew, IsSingle, IsUnmap, Place}
+use Rattle.moments.specs.Moments.{FillsFirst, IsOldOrNewIn, GoesDown, IsDestroyed, IsFilledFirst, IsMap, IsOldOrAbsent}
+use Rattle.moments.specs.Moments.{IsOldOrNew, IsSingle, IsUnmap, Place}
 use Rattle.moments.specs.Moments.{Reached, ReadsSpelled, in_place, meanwhile, reached_by}
 
 -- Whatever words of a map have reached memory when a walk reads them, each level at its own moment, each page is found as before the
@@ -59,7 +60,8 @@ LeavesInPlaceAreOldOrNewOrSingle =
     → AreSpelled old.words (levels width) root
     → GoesDown moment
     → (leaf_from (in_place old.words order.moments moment) (levels width) root page ≡ leaf_from (memory old.words) (levels width) root page)
-    ⊎ ((leaf_from (in_place old.words order.moments moment) (levels width) root page ≡ leaf_from (memory new.words) (levels width) root page)
+    ⊎ ((leaf_from (in_place old.words order.moments moment) (levels width) root page
+    ≡ leaf_from (memory new.words) (levels width) root page)
     ⊎ IsSingle page (leaf_from (in_place old.words order.moments moment) (levels width) root page)
     (leaf_from (memory old.words) (levels width) root page))
 

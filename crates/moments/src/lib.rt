@@ -3,7 +3,8 @@
 //! proof is from the public contracts of `tables` alone.
 #![tactic(auto)]
 
-ghost use Rattle.moments.specs.Laws.{DestroysAreOldOrAbsent, LeavesInPlaceAreOldOrNewOrSingle, MapsAreOldOrNew, MapsInPlaceAreOldOrNew, OneOrderMatters, OneOrderSuffices};
+ghost use Rattle.moments.specs.Laws.{DestroysAreOldOrAbsent, LeavesInPlaceAreOldOrNewOrSingle, MapsAreOldOrNew, MapsInPlaceAreOldOrNew};
+ghost use Rattle.moments.specs.Laws.{OneOrderMatters, OneOrderSuffices};
 ghost use Rattle.moments.specs.Laws.{OthersAreSteady, UnmapsAreOldOrNew, UnmapsInPlaceAreOldOrNew, WordsReadAreSpelled};
 
 /// Whatever words of a map have reached memory, each page is found as before it or as after it.

@@ -1,5 +1,5 @@
 -- The law of quiet: what may still be cached once a call is done.
-use Rattle.std.specs.Prelude.{◌≡◌, ◌≢◌, ◌⊎◌, ℕ, ◌<◌, ◌≤◌, List, false, true, Some}
+use Rattle.std.specs.Prelude.{◌≡◌, ◌≢◌, ◌⊎◌, ℕ, ◌<◌, ◌≤◌, ◌++◌, List, false, true, Some}
 use Rattle.arrayvec.specs.ArrayVec.{ArrayVec}
 use Rattle.dmatypes.specs.Conditions.{total_pages}
 use Rattle.dmatypes.specs.Page.{IsWithin, pages_end, range_at}
@@ -14,8 +14,9 @@ use Rattle.dmatypes.specs.declared.reply.Reply.{Reply}
 use Rattle.dmatypes.specs.declared.reply.Reply.TheVariants.{Done, Flushed, Mapped, Reaped, Unmapped}
 use Rattle.vtdbits.specs.declared.descriptor.Descriptor.{Descriptor}
 use Rattle.vtdbits.specs.declared.descriptor.Descriptor.TheVariants.{IotlbDomain}
-use Rattle.tables.specs.Pool.{occurs}
-use Rattle.moments.specs.Moments.{IsFilledFirst, IsOldOrAbsent, IsOldOrNew, Reached, ReadsSpelled}
+use Rattle.tables.specs.Pool.{Moment, memory, occurs}
+use Rattle.tables.specs.Tree.{root_states}
+use Rattle.moments.specs.Moments.{GoesDown, in_place, IsFilledFirst, IsOldOrAbsent, IsOldOrNew, Reached, ReadsSpelled}
 use Rattle.unit.specs.Caches.{CachedContext, CachedFault, CachedLeaf, CachedNonLeaf}
 use Rattle.unit.specs.Filters.{drops_context, drops_fault, drops_leaf, drops_non_leaf}
 use Rattle.engine.specs.declared.record.Record.{Record}
@@ -116,6 +117,20 @@ StrictUnmapsForgetSinglePages =
     → leaf.pages ≡ 1
     → drops_leaf d leaf ≡ false
     → HoldsPageOf leaf (range_at address pages) → ⊥
+
+-- Where the tables lie in place, a walk that reads their words while a strict unmap writes them, each level no sooner than the level above,
+-- finds each page of the domain as before the call or as after it.
+abbrev pub StrictUnmapsInPlaceAreOldOrNew : Type 0
+StrictUnmapsInPlaceAreOldOrNew =
+    (m t : State) (domain address pages released : ℕ) (h : Domain)
+    → IsSound m
+    → Does m (calls.Unmap domain address pages) (Unmapped released) t
+    → domain_at m.domains domain ≡ Some h
+    → h.mode ≡ Strict
+    → (moments : List Moment) × (t.pool.trail ≡ m.pool.trail ++ moments)
+    × ((moment : ℕ → ℕ) (page : ℕ) → GoesDown moment
+    → (root_states (in_place m.pool.words moments moment) h.width h.root page ≡ root_states (memory m.pool.words) h.width h.root page)
+    ⊎ (root_states (in_place m.pool.words moments moment) h.width h.root page ≡ root_states (memory t.pool.words) h.width h.root page))
 
 -- Nor is a table of the domain one that was cut. Each that was cached before the call or during it, and that the descriptor leaves, is
 -- in its place in the tree that is left, and no free frame.

@@ -6,7 +6,7 @@
 ghost use Rattle.quiet.specs.Laws.{CachedDuringIsOldOrNew, CachesStay, CallsAreOldOrNew, CallsReadSpelledWords, DetachesForget};
 ghost use Rattle.quiet.specs.Laws.{DropsAreOldOrAbsent, DropsForget, FlushesForget, FullListsForget, MapsForgetFaults};
 ghost use Rattle.quiet.specs.Laws.{MapsOfOneForgetFaults, ReapsForget, StrictUnmapsForgetPages};
-ghost use Rattle.quiet.specs.Laws.{StrictUnmapsForgetSinglePages, StrictUnmapsForgetTables};
+ghost use Rattle.quiet.specs.Laws.{StrictUnmapsForgetSinglePages, StrictUnmapsForgetTables, StrictUnmapsInPlaceAreOldOrNew};
 
 /// Whatever words of a call have reached memory, a walk finds each page of a domain as before the call or as after it. Of the domain that
 /// a drop ends, as before or not at all.
@@ -31,6 +31,7 @@ pub fn caches_stay()
 pub fn strict_unmaps_forget_pages()
     ensures leaves { StrictUnmapsForgetPages }
     ensures single { StrictUnmapsForgetSinglePages }
+    ensures in_place { StrictUnmapsInPlaceAreOldOrNew }
 {}
 
 /// Nor is a cached table one that was cut.
