@@ -1,7 +1,6 @@
 -- What a call asks, from what is told of it.
-use Rattle.std.proofs.Common.{ap, slice_get}
 use Rattle.std.proofs.lemmas.List.Elements.{All-push}
-use Rattle.driven.specs.Effects.{first_half}
+use Rattle.driven.specs.Effects.{GoesFirst}
 use Rattle.driven.specs.declared.effect.Half.{Half}
 use Rattle.driven.proofs.Brought.{for_memory}
 use Rattle.std.proofs.Common.{◌≡◌, ◌⊎◌, inl, inr, ℕ, Bool, Option, List, [], ◌∷◌, refl, subst, slice_set, sym}
@@ -32,7 +31,7 @@ use Rattle.driven.proofs.Told.{nothing_in_order, one_entry, sent_part, whole_row
 abbrev pub entry_told : ℕ → Half → List Effect
 entry_told device first = Context device first ∷ Barrier ∷ []
 
-entry_for_memory : (t : State) (device : ℕ) (first : Half) → first ≡ first_half (slice_get t.iommu.contexts device)
+entry_for_memory : (t : State) (device : ℕ) (first : Half) → GoesFirst t device first
     → All (λ e. IsForMemory t e) (entry_told device first)
 entry_for_memory t device first is =
     All-append (λ e. IsForMemory t e) (Context device first ∷ []) (Barrier ∷ [])
@@ -65,7 +64,7 @@ module _ (m t : State) (call : Call) (reply : Reply) (sound : IsSound m) (ticket
   }
 
   -- the entry of one device was, at most
-  pub one_for_entry : (device : ℕ) (first : Half) → first ≡ first_half (slice_get t.iommu.contexts device)
+  pub one_for_entry : (device : ℕ) (first : Half) → GoesFirst t device first
       → (t.iommu.contexts ≡ m.iommu.contexts) ⊎ ((e : ContextEntry) × (t.iommu.contexts ≡ slice_set m.iommu.contexts device e))
       → BringsAll m t (entry_told device first)
   one_for_entry device first half row = record {
@@ -75,8 +74,7 @@ module _ (m t : State) (call : Call) (reply : Reply) (sound : IsSound m) (ticket
     words = words_stay m t call reply tickets does sound none (entry_told device first);
     contexts = elim row [
       | inl same ↦ whole_row m t same (entry_told device first)
-      | inr other ↦ one_entry m t device other.0 other.1 (entry_told device first)
-          (inl (ap (λ h. Context device h) (sym half)))
+      | inr other ↦ one_entry m t device first other.0 other.1 (entry_told device first) half (inl refl)
     ];
     fills = none_fill m t call reply sound does none (entry_told device first);
   }

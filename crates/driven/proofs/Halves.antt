@@ -154,7 +154,7 @@ module _ (old new : Words) (reached : Half → Bool) where
 
   -- where both are spelled
   spelled : (e e' : ContextEntry) → Spells old e → Spells new e' → (e' ≡ e) ⊎ ((attached (Some e) ≡ None) ⊎ (attached (Some e') ≡ None))
-      → IsReadFirst (first_half (Some e')) reached → Found
+      → IsReadFirst (first_half e') reached → Found
   spelled Absent Absent was is goes first = goes_away is.0 first
   spelled (Present root width domain) Absent was is goes first = goes_away is.0 first
   spelled Absent (Present root width domain) was is goes first = comes was.0 first
@@ -164,7 +164,7 @@ module _ (old new : Words) (reached : Half → Bool) where
   spelled (Present root width domain) (Present root' width' domain') was is (inr (inr none)) first = absurd (none-some domain' (sym none))
 
 pub contexts_old_or_new : ContextsAreOldOrNew
-contexts_old_or_new m t call reply device old new reached sound does (e, at, was) (e', at', is) first =
+contexts_old_or_new m t call reply device half old new reached sound does (e, at, was) (e', at', is) (e'', (there, half_is)) first =
     spelled old new reached e e' was is
     (elim (goes m t device call reply sound does does.becomes) [
       | inl same ↦ inl (same_Some e' e (sym at' ∙ same ∙ at))
@@ -173,4 +173,4 @@ contexts_old_or_new m t call reply device old new reached sound does (e, at, was
         | inr after ↦ inr (inr (ap attached (sym at') ∙ after))
       ]
     ])
-    (subst (λ o. IsReadFirst (first_half o) reached) at' first)
+    (subst (λ h. IsReadFirst h reached) (half_is ∙ ap first_half (same_Some e'' e' (sym there ∙ at'))) first)

@@ -1,9 +1,14 @@
 -- What becomes of the row of contexts.
 use Rattle.std.proofs.Common.{ℕ, zero, suc, Some, List, [], ◌∷◌, refl, sym, slice_get}
 use Rattle.std.proofs.lemmas.Option.{none-some}
-use Rattle.dmatypes.specs.declared.width.Width.{Width}
 use Rattle.vtdbits.specs.declared.context.ContextEntry.TheVariants.{Absent, Present}
-use Rattle.driven.specs.Effects.{first_half}
+use Rattle.driven.specs.Effects.{GoesFirst}
+use Rattle.std.proofs.Common.{Option, None}
+use Rattle.dmatypes.proofs.histories.Maps.{put_same}
+use Rattle.vtdbits.specs.Context.{attached}
+use Rattle.dmatypes.specs.Step.{next}
+use Rattle.engine.specs.Steps.{Does}
+use Rattle.quiet.specs.Quiet.{IsSound}
 use Rattle.driven.specs.declared.effect.Half.TheVariants.{High, Low}
 use Rattle.std.proofs.Common.{◌≡◌, ◌⊎◌, inl, inr, ℕ, Bool, true, false, ap, ◌∙◌, slice_set}
 use Rattle.dmatypes.specs.Page.{Range, range_at}
@@ -81,30 +86,30 @@ module _ (m t : State) where
 
 -- ---- which half goes first
 
-half_of_set : (row : List ContextEntry) (device root : ℕ) (width : Width) (domain : ℕ)
-    → High ≡ first_half (slice_get (slice_set row device (Present root width domain)) device)
-half_of_set [] device root width domain = refl
-half_of_set (x ∷ xs) zero root width domain = refl
-half_of_set (x ∷ xs) (suc i) root width domain = half_of_set xs i root width domain
-
-half_of_cleared : (row : List ContextEntry) (device : ℕ) (e : ContextEntry) → slice_get row device ≡ Some e
-    → Low ≡ first_half (slice_get (slice_set row device Absent) device)
-half_of_cleared [] device e h = absurd (none-some e h)
-half_of_cleared (x ∷ xs) zero e h = refl
-half_of_cleared (x ∷ xs) (suc i) e h = half_of_cleared xs i e h
+cleared_there : (row : List ContextEntry) (device : ℕ) (e : ContextEntry) → slice_get row device ≡ Some e
+    → slice_get (slice_set row device Absent) device ≡ Some Absent
+cleared_there [] device e h = absurd (none-some e h)
+cleared_there (x ∷ xs) zero e h = refl
+cleared_there (x ∷ xs) (suc i) e h = cleared_there xs i e h
 
 -- an entry that is there after the call has its present bit last
-pub attached_half : (m t : State) (device domain : ℕ) → Becomes m (calls.Attach device domain) Done t
-    → High ≡ first_half (slice_get t.iommu.contexts device)
-unfolding Becomes
-attached_half m t device domain (h, here, is) =
-    half_of_set m.iommu.contexts device h.root h.width domain
-    ∙ ap (λ row. first_half (slice_get row device)) (sym (ap (λ (x : State). x.iommu.contexts) is))
+pub attached_half : (m t : State) (device domain : ℕ) → IsSound m → Does m (calls.Attach device domain) Done t → GoesFirst t device High
+unfolding next
+attached_half m t device domain sound does =
+    by (slice_get t.iommu.contexts device) refl
+    (sym ((does.steps sound.of_world.0 sound.of_world.1).1.contexts.devices device)
+    ∙ put_same device (Some domain) (sound.of_world.0).devices)
+  where
+    by : (o : Option ContextEntry) → slice_get t.iommu.contexts device ≡ o → attached (slice_get t.iommu.contexts device) ≡ Some domain
+        → GoesFirst t device High
+    by None is h = absurd (none-some domain (ap attached (sym is) ∙ h))
+    by (Some Absent) is h = absurd (none-some domain (ap attached (sym is) ∙ h))
+    by (Some (Present root width d)) is h = (Present root width d, (is, refl))
 
 -- one that goes has it first
-pub detached_half : (m t : State) (device : ℕ) → Becomes m (calls.Detach device) Done t
-    → Low ≡ first_half (slice_get t.iommu.contexts device)
+pub detached_half : (m t : State) (device : ℕ) → Becomes m (calls.Detach device) Done t → GoesFirst t device Low
 unfolding Becomes
-detached_half m t device (e, root, width, at, done, is) =
-    half_of_cleared m.iommu.contexts device (Present root width e) at
-    ∙ ap (λ row. first_half (slice_get row device)) (sym done.contexts)
+detached_half m t device (e, root, width, at, done, is) = (
+  Absent,
+  (ap (λ row. slice_get row device) done.contexts ∙ cleared_there m.iommu.contexts device (Present root width e) at, refl),
+)

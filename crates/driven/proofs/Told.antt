@@ -1,5 +1,6 @@
 -- What is told of a call that was done.
-use Rattle.driven.specs.Effects.{first_half}
+use Rattle.driven.specs.Effects.{GoesFirst}
+use Rattle.driven.specs.declared.effect.Half.{Half}
 use Rattle.driven.proofs.Brought.{for_memory}
 use Rattle.std.proofs.Common.{◌≡◌, ◌≢◌, inl, inr, ℕ, ◌+◌, ◌<◌, ◌≤◌, Bool, true, false, List, [], ◌∷◌}
 use Rattle.std.proofs.Common.{length, Option, Some, None, refl, sym, ap, subst, ◌∙◌, arith, slice_get, slice_set}
@@ -164,15 +165,15 @@ module _ (m t : State) (call : Call) (reply : Reply) (tickets : KeepsTickets m) 
 -- ---- the row of contexts
 
 -- a device's entry alone was changed
-pub one_entry : (m t : State) (device : ℕ) (e : ContextEntry) → t.iommu.contexts ≡ slice_set m.iommu.contexts device e → (es : List Effect)
-    → IsIn (Context device (first_half (slice_get t.iommu.contexts device))) es → (v : ℕ)
-    → slice_get m.iommu.contexts v ≢ slice_get t.iommu.contexts v → IsIn (Context v (first_half (slice_get t.iommu.contexts v))) es
-one_entry m t device e is es told v differs =
+pub one_entry : (m t : State) (device : ℕ) (first : Half) (e : ContextEntry) → t.iommu.contexts ≡ slice_set m.iommu.contexts device e
+    → (es : List Effect) → GoesFirst t device first → IsIn (Context device first) es → (v : ℕ)
+    → slice_get m.iommu.contexts v ≢ slice_get t.iommu.contexts v → (half : Half) × (GoesFirst t v half × IsIn (Context v half) es)
+one_entry m t device first e is es goes told v differs =
     elim (same_or_not v device) [
-      | inl same ↦ subst (λ n. IsIn (Context n (first_half (slice_get t.iommu.contexts n))) es) (sym same) told
+      | inl same ↦ subst (λ n. (half : Half) × (GoesFirst t n half × IsIn (Context n half) es)) (sym same) (first, (goes, told))
       | inr ne ↦ absurd (differs (sym (ap (λ r. slice_get r v) is ∙ get_set_other m.iommu.contexts device v e ne)))
     ]
 
 pub whole_row : (m t : State) → t.iommu.contexts ≡ m.iommu.contexts → (es : List Effect) (v : ℕ)
-    → slice_get m.iommu.contexts v ≢ slice_get t.iommu.contexts v → IsIn (Context v (first_half (slice_get t.iommu.contexts v))) es
+    → slice_get m.iommu.contexts v ≢ slice_get t.iommu.contexts v → (half : Half) × (GoesFirst t v half × IsIn (Context v half) es)
 whole_row m t row es v differs = absurd (differs (ap (λ r. slice_get r v) (sym row)))

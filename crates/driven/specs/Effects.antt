@@ -11,7 +11,7 @@ use Rattle.dmatypes.specs.declared.reply.Reply.{Reply}
 use Rattle.dmatypes.specs.declared.reply.Reply.TheVariants.{Done, Flushed, Refused}
 use Rattle.vtdbits.specs.Context.{attached}
 use Rattle.vtdbits.specs.declared.context.ContextEntry.{ContextEntry}
-use Rattle.vtdbits.specs.declared.context.ContextEntry.TheVariants.{Absent}
+use Rattle.vtdbits.specs.declared.context.ContextEntry.TheVariants.{Absent, Present}
 use Rattle.vtdbits.specs.Descriptor.{descriptor_of}
 use Rattle.vtdbits.specs.declared.descriptor.Descriptor.{Descriptor}
 use Rattle.vtdbits.specs.declared.descriptor.Descriptor.TheVariants.{Wait}
@@ -48,15 +48,19 @@ IsForTables effect = ⊥
 
 -- which half of a context entry is brought first: where the entry is absent after the call the one with the present bit, else the other, so
 -- that an entry that is read as present is whole
-abbrev pub first_half : Option ContextEntry → Half
-first_half (Some Absent) = Low
-first_half entry = High
+abbrev pub first_half : ContextEntry → Half
+first_half Absent = Low
+first_half (Present root width domain) = High
+
+-- the device has an entry after the call, and this is that half of it
+abbrev pub GoesFirst : State → ℕ → Half → Type 0
+GoesFirst t device half = (e : ContextEntry) × ((slice_get t.iommu.contexts device ≡ Some e) × (half ≡ first_half e))
 
 -- nothing is sent and nothing waited for, and a context entry is brought by that half first
 abbrev pub IsForMemory : State → Effect → Type 0
 IsForMemory t (Words frame first count) = Unit {0}
 IsForMemory t Barrier = Unit {0}
-IsForMemory t (Context device first) = first ≡ first_half (slice_get t.iommu.contexts device)
+IsForMemory t (Context device first) = GoesFirst t device first
 IsForMemory t effect = ⊥
 
 -- where a table takes the place of a leaf of 2 MiB, all of its words are brought before a barrier, and the word that names it isn't
@@ -81,7 +85,7 @@ pub record BringsAll (m t : State) (effects : List Effect) : Type 0 where
   -- no word is brought of a frame that the pool doesn't have
   pub inside : (f k : ℕ) → k < TABLE_ENTRIES → IsBrought effects f k → f < t.pool.frames
   pub contexts : (v : ℕ) → slice_get m.iommu.contexts v ≢ slice_get t.iommu.contexts v
-      → IsIn (Context v (first_half (slice_get t.iommu.contexts v))) effects
+      → (first : Half) × (GoesFirst t v first × IsIn (Context v first) effects)
   pub fills : FillsTables m t effects
   pub ends : EndInBarrier effects
 

@@ -1,5 +1,5 @@
 -- Which words of table frames each call changes, what it submits, and what a walk finds while its effects reach memory.
-use Rattle.std.specs.Prelude.{◌≡◌, ◌≢◌, ◌⊎◌, ℕ, suc, ◌+◌, ◌/◌, ◌%◌, ◌<◌, Bool, true, if◌then◌else◌, List, ◌∷◌, ◌++◌, Some, slice_get, take}
+use Rattle.std.specs.Prelude.{◌≡◌, ◌≢◌, ◌⊎◌, ℕ, suc, ◌+◌, ◌/◌, ◌%◌, ◌<◌, Bool, true, if◌then◌else◌, List, ◌∷◌, ◌++◌, Some, take}
 use Rattle.vtdbits.specs.declared.descriptor.Descriptor.{Descriptor}
 use Rattle.vtdbits.specs.declared.words.Words.{Words}
 use Rattle.queue.specs.Ring.{submitted_in}
@@ -23,7 +23,7 @@ use Rattle.driven.specs.declared.effect.Half.{Half}
 use Rattle.driven.specs.declared.effect.Half.TheVariants.{High, Low}
 use Rattle.driven.specs.declared.effect.Effect.{Effect}
 use Rattle.driven.specs.declared.effect.Effect.TheVariants.{Barrier}
-use Rattle.driven.specs.Effects.{AreEffects, IsBrought, SendsWith, first_half}
+use Rattle.driven.specs.Effects.{AreEffects, GoesFirst, IsBrought, SendsWith}
 use Rattle.driven.specs.Walks.{IsExchanged, IsOnWalks}
 
 -- the word lies on the way of one of so many pages of the domain, from a first one on, after the call
@@ -161,10 +161,11 @@ IsReadAs read words = (read ≡ words) ⊎ ((read.low % 2 ≡ 0) × (words.low %
 -- it. That asks only that the half that the effects bring first reaches memory first.
 abbrev pub ContextsAreOldOrNew : Type 0
 ContextsAreOldOrNew =
-    (m t : State) (call : Call) (reply : Reply) (device : ℕ) (old new : Words) (reached : Half → Bool)
+    (m t : State) (call : Call) (reply : Reply) (device : ℕ) (first : Half) (old new : Words) (reached : Half → Bool)
     → IsSound m
     → Does m call reply t
     → SpellsContext m device old
     → SpellsContext t device new
-    → IsReadFirst (first_half (slice_get t.iommu.contexts device)) reached
+    → GoesFirst t device first
+    → IsReadFirst first reached
     → IsReadAs (halves_read old new reached) old ⊎ IsReadAs (halves_read old new reached) new

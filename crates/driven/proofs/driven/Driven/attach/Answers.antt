@@ -30,7 +30,7 @@ returns-clause-effects c =
       brings = one_for_entry c.deref_mut-state.result.now c.attach.new.self (calls.Attach c.args.device c.args.domain) (replies.Done) sound
           c.keeps.ensures.tickets c.in_ok-attach.ensures
           (λ f k no. no) c.args.device High
-          (attached_half c.deref_mut-state.result.now c.attach.new.self c.args.device c.args.domain c.in_ok-attach.ensures.becomes)
+          (attached_half c.deref_mut-state.result.now c.attach.new.self c.args.device c.args.domain sound c.in_ok-attach.ensures)
           (rows c.deref_mut-state.result.now c.attach.new.self (calls.Attach c.args.device c.args.domain)
           (replies.Done) c.in_ok-attach.ensures.becomes);
       sends = sends_none c.deref_mut-state.result.now c.attach.new.self (calls.Attach c.args.device c.args.domain) (replies.Done) sound
