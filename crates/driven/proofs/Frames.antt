@@ -56,8 +56,8 @@ module _ (m t : State) (sound : IsSound m) (d : ℕ) (h : Domain) (here : domain
 
   -- ---- a map
 
-  pub mapped_within : (from to : ℕ) (grew : Bool) (es : List Effect) → BringsMapped t.pool (domain_at t.domains d) from to grew es → (f k : ℕ)
-      → k < TABLE_ENTRIES → IsBrought es f k → f < t.pool.frames
+  pub mapped_within : (from to : ℕ) (grew : Bool) (es : List Effect) → BringsMapped t.pool (domain_at t.domains d) from to grew es
+      → (f k : ℕ) → k < TABLE_ENTRIES → IsBrought es f k → f < t.pool.frames
   mapped_within from to grew es brings f k inside told = on_ways 1 from to f (brings.only f k inside told)
 
   -- ---- an unmap

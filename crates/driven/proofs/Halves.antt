@@ -120,7 +120,8 @@ module _ (old new : Words) (reached : Half → Bool) where
   goes_away none first = by (reached Low) (reached High) refl refl
     where
       by : (low high : Bool) → reached Low ≡ low → reached High ≡ high → Found
-      by true high is is' = inr (inr (ap (λ (w : Words). w.low % 2) (read_is true high is is') ∙ ap (λ n. n % 2) none, ap (λ n. n % 2) none))
+      by true high is is' =
+          inr (inr (ap (λ (w : Words). w.low % 2) (read_is true high is is') ∙ ap (λ n. n % 2) none, ap (λ n. n % 2) none))
       by false true is is' = no_clash (reached Low) (first High is') is
       by false false is is' = as_before is is'
 

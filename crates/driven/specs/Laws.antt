@@ -103,8 +103,8 @@ EffectsFillFirst =
     → IsReadInOrder effects reached
     → IsFilledFirst m.pool.words t.pool.words reached
 
--- The effects are done in their order, the first first. When a walk reads a level, so many of them are done, and the next one maybe in part.
--- It reads as brought what these bring, and nothing that only later ones bring
+-- The effects are done in their order, the first first. When a walk reads a level, so many of them are done, and the next one maybe in
+-- part. It reads as brought what these bring, and nothing that only later ones bring
 pub record IsReadMeanwhile (effects : List Effect) (done : ℕ → ℕ) (reached : Reached) : Type 0 where
   pub brought : (level frame index : ℕ) → IsBrought (take (done level) effects) frame index → reached level frame index ≡ true
   pub only : (level frame index : ℕ) → reached level frame index ≡ true → IsBrought (take (suc (done level)) effects) frame index

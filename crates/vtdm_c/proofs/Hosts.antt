@@ -112,7 +112,8 @@ nothing_seen level word out =
 -- any other
 other_word : (base level word : ℕ) → (word ≡ 0) ⊎ (2 ^ 36 ≤ word) → look level (word_of base word) ≡ entry_of base (look level word)
 other_word base level word out =
-    ap (λ w. look level w) (stays base word out) ∙ nothing_seen level word out ∙ sym (ap (λ e. entry_of base e) (nothing_seen level word out))
+    ap (λ w. look level w) (stays base word out) ∙ nothing_seen level word out
+    ∙ sym (ap (λ e. entry_of base e) (nothing_seen level word out))
 
 word_looked : (frames base level word : ℕ) → IsBase frames base → look level (word_of base word) ≡ entry_of base (look level word)
 word_looked frames base level word is = elim (eqb_tells word 0) [
@@ -224,7 +225,8 @@ walks frames base words hosted zero table page is h passes = (
   λ w. table-zero (seen hosted) (base + table) page w ∙ sym (ap (λ o. table_of base o) (table-zero (seen words) table page w)),
 )
 walks frames base words hosted (suc l) table page is h passes =
-    let begins : frame_of base table ≡ base + table = tables_begin frames base table is (passes_here frames (seen words) l table page passes) in (
+    let begins : frame_of base table ≡ base + table =
+    tables_begin frames base table is (passes_here frames (seen words) l table page passes) in (
       ap (λ f. leaf_from (seen hosted) (suc l) f page) (sym begins) ∙ leaf_below frames base words hosted (suc l) table page is h passes,
       λ w. ap (λ f. table_from (seen hosted) (suc l) f page w) (sym begins)
           ∙ table_below frames base words hosted (suc l) table page w is h passes,

@@ -96,7 +96,8 @@ module _ (frames base : ℕ) (old new : List ℕ) (reached : Reached) (hosted : 
           | inr now ↦ inr (page_hosted small ∙ ap (λ o. target_of base o) now)
         ])
         (λ (far : pages_end width ≤ page).
-        inl (beyond (seen hosted) width (base + root) page far ∙ sym (ap (λ o. target_of base o) (beyond (memory old) width root page far))))
+        inl (beyond (seen hosted) width (base + root) page far
+        ∙ sym (ap (λ o. target_of base o) (beyond (memory old) width root page far))))
         (cases_lt page (pages_end width));
     leaf = λ small. elim (either.leaf small) [
       | inl was ↦ inl (leaf_hosted small ∙ ap (λ o. leaf_of base o) was)
@@ -150,5 +151,6 @@ module _ (m t : State) (call : Call) (reply : Reply) (d : ℕ) (h h' : Domain) (
 pub units_find : UnitsFindHostFrames
 units_find m t call reply effects domain h h' reached base hosted page sound does are there then keeps is hosts =
     finds_old_or_new m.pool.frames base m.pool.words t.pool.words reached hosted h.width h.root page is hosts
-    (passes_before m t call reply domain h h' sound does there then page) (passes_after m t call reply domain h h' sound does there then page)
+    (passes_before m t call reply domain h h' sound does there then page)
+    (passes_after m t call reply domain h h' sound does there then page)
     (effects_old_or_new m t call reply effects domain h h' reached page sound does are there then keeps)

@@ -1,5 +1,5 @@
--- What it means that the table frames begin at a base: numbers of host frames are judged as these are and lead back to them, and a unit that
--- walks the words which C brings finds what the manager's own walk finds.
+-- What it means that the table frames begin at a base: numbers of host frames are judged as these are and lead back to them, and a unit
+-- that walks the words which C brings finds what the manager's own walk finds.
 use Rattle.std.specs.Prelude.{◌≡◌, ◌↔◌, ℕ, ◌+◌, ◌*◌, ◌%◌, ◌<◌, ◌≤◌, Option, None, Some}
 use Rattle.dmatypes.specs.World.{Target}
 use Rattle.dmatypes.specs.declared.page.TheConstants.{FRAMES_END, PAGE_BYTES, SPAN_PAGES}

@@ -62,9 +62,9 @@ pub fn units_find_host_frames()
     ensures { UnitsFindHostFrames }
 {}
 
-/// A manager that C makes is one of which the laws speak, and stays so whatever calls are made. So while C brings what a call of it asks, a
-/// unit finds each page as before the call or as after it. Beside what the call promises that asks only what C owes: that it keeps barriers,
-/// and that host memory has the words.
+/// A manager that C makes is one of which the laws speak, and stays so whatever calls are made. So while C brings what a call of it asks,
+/// a unit finds each page as before the call or as after it. Beside what the call promises that asks only what C owes: that it keeps
+/// barriers, and that host memory has the words.
 pub fn managers_stay_sound()
     ensures made { CreationsAreSound }
     ensures called { CallsKeepSessionsSound }
