@@ -34,6 +34,18 @@ static void pair(struct vtdm *manager, uint64_t at, uint64_t rounds) {
     }
 }
 
+/* The same, and what both calls ask: the word and a barrier, and of the unmap two descriptors and the wait besides. */
+static void told(struct vtdm *manager, uint64_t at, uint64_t rounds) {
+    (void)at;
+    struct vtdm_effect effects[VTDM_MOST_EFFECTS];
+    for (uint64_t i = 0; i < rounds; i++) {
+        struct vtdm_answer mapped = vtdm_map(manager, 1, 0x1001, 1, 0, VTDM_READ | VTDM_WRITE);
+        must(mapped.status == VTDM_OK && vtdm_effects(manager, effects, VTDM_MOST_EFFECTS).value == 2);
+        struct vtdm_answer ended = vtdm_unmap(manager, 1, mapped.value, 1);
+        must(ended.status == VTDM_OK && vtdm_effects(manager, effects, VTDM_MOST_EFFECTS).value == 5);
+    }
+}
+
 static void cached(struct vtdm *manager, uint64_t at, uint64_t rounds) {
     for (uint64_t i = 0; i < rounds; i++)
         must(vtdm_dma(manager, DEVICE, at, false, true, false).value == 0x1001000);
@@ -108,11 +120,11 @@ static double crowded(struct vtdm *manager, const struct crowd *crowd, uint64_t 
     return now() - start;
 }
 
-/* A line: its name, how its domain is, what is mapped before, and its rounds, by `run` or among ranges that are live. Mapped before is a
- * page that is remembered, or a page behind a hole of so many. */
+/* A line: its name, how its domain is, whether its manager is in charge of another unit, what is mapped before, and its rounds, by `run`
+ * or among ranges that are live. Mapped before is a page that is remembered, or a page behind a hole of so many. */
 static const struct line {
     const char *name;
-    bool lazy, wide, mapped;
+    bool lazy, wide, driven, mapped;
     unsigned hole;
     void (*run)(struct vtdm *manager, uint64_t at, uint64_t rounds);
     struct crowd crowd;
@@ -121,6 +133,8 @@ static const struct line {
     {.name = "map and unmap 1 page, 48 bits", .wide = true, .run = pair},
     {.name = "map and unmap 1 page, in a hole of 2", .hole = 2, .run = pair},
     {.name = "map and unmap 1 page, in a hole of 2, 48 bits", .wide = true, .hole = 2, .run = pair},
+    {.name = "map and unmap 1 page, driven", .driven = true, .run = pair},
+    {.name = "map and unmap 1 page, driven, with what it asks", .driven = true, .run = told},
     {.name = "map and unmap lazily, 256 a flush", .lazy = true, .run = pair},
     {.name = "dma answered by the caches", .mapped = true, .run = cached},
     {.name = "dma answered by a walk", .mapped = true, .run = walked},
@@ -143,7 +157,7 @@ static const struct line {
 static double turn(const struct line *line, uint64_t rounds) {
     struct vtdm manager = VTDM_INIT;
     uint64_t at = 0;
-    must(vtdm_create(&manager, TABLE_FRAMES) == VTDM_OK);
+    must((line->driven ? vtdm_create_driven(&manager, TABLE_FRAMES, 0, false, 0) : vtdm_create(&manager, TABLE_FRAMES)) == VTDM_OK);
     must((line->wide ? vtdm_domain_wide(&manager, line->lazy) : vtdm_domain(&manager, line->lazy)).value == 1);
     must(vtdm_attach(&manager, DEVICE, 1).status == VTDM_OK);
     if (line->hole != 0) {
