@@ -57,10 +57,16 @@ reached_to w device address access host (Some v) at allows =
     let x = followed w.domains (w.devices device) v at in
     record { id = x.0; domain = v; attached = x.1; there = x.2; by = reached_in v address access host allows }
 
+-- of whatever answer is allowed
+pub reached_allowed : (w : World) (device address : ℕ) (access : Access) (host : ℕ) → Allows w device address access (Host host)
+    → IsReached w device address access host
+unfolding Allows
+reached_allowed w device address access host allows = reached_to w device address access host (domain_of_device w device) refl allows
+
 pub reached : (w : World) (device address : ℕ) (access : Access) (whim : Whim) (host : ℕ)
     → IsStep w (calls.Dma device address access whim) (Host host) → IsReached w device address access host
-unfolding IsStep Answers Allows
-reached w device address access whim host step = reached_to w device address access host (domain_of_device w device) refl step.1
+unfolding IsStep Answers
+reached w device address access whim host step = reached_allowed w device address access host step.1
 
 pub reached_after : (frames : ℕ) (before rest : List Event) (device address : ℕ) (access : Access) (whim : Whim) (host : ℕ)
     → IsLegal frames (before ++ reaching device address access whim host ∷ rest)

@@ -11,6 +11,7 @@ use Rattle.dmatypes.specs.World.{Domain, World, IsFree, empty, with_room}
 use Rattle.dmatypes.specs.Step.{IsStep, next}
 use Rattle.dmatypes.specs.History.{after, after_from, IsLegal}
 use Rattle.laws.specs.Events.{Gives, IsAttached, IsOfMode, IsReleased, Maps, Occurs, Unmaps, reaching}
+use Rattle.laws.proofs.reach.Reached.{IsReached, reached_after}
 use Rattle.laws.proofs.reach.Since.{given_since}
 use Rattle.laws.proofs.worlds.Apart.{apart_after}
 use Rattle.laws.proofs.worlds.Live.{put_in}
@@ -57,14 +58,23 @@ released_between frames before between rest unmap map d p legal lazy unmaps maps
       | inr released ↦ released.0
     ]
 
+-- whatever is reached after the history
+pub release_ends_reach : (frames : ℕ) (before between more : List Event) (unmap : Event) (domain device address : ℕ) (access : Access)
+    (host : ℕ) → IsLegal frames ((before ++ unmap ∷ between) ++ more)
+    → IsReached (after frames (before ++ unmap ∷ between)) device address access host
+    → IsOfMode modes.Lazy domain before → Unmaps domain (page_of address) unmap → IsReleased domain between
+    → IsAttached device domain (before ++ unmap ∷ between) → Occurs (Gives domain address access host) between
+release_ends_reach frames before between more unmap domain device address access host legal reached lazy unmaps released attached =
+    let h = held_or_released frames before between more unmap domain (page_of address) legal lazy unmaps in
+    elim h.1 [
+      | inl held ↦ absurd (held.unreleased released)
+      | inr kept ↦ given_since frames before between more unmap domain device address access host legal reached attached kept.1
+    ]
+
 pub release_ends : (frames : ℕ) (before between rest : List Event) (unmap : Event) (domain device address : ℕ) (access : Access)
     (whim : Whim) (host : ℕ) → IsLegal frames ((before ++ unmap ∷ between) ++ reaching device address access whim host ∷ rest)
     → IsOfMode modes.Lazy domain before → Unmaps domain (page_of address) unmap → IsReleased domain between
     → IsAttached device domain (before ++ unmap ∷ between) → Occurs (Gives domain address access host) between
-release_ends frames before between rest unmap domain device address access whim host legal lazy unmaps released attached =
-    let dma = reaching device address access whim host ∷ rest in
-    let h = held_or_released frames before between dma unmap domain (page_of address) legal lazy unmaps in
-    elim h.1 [
-      | inl held ↦ absurd (held.unreleased released)
-      | inr kept ↦ given_since frames before between rest unmap domain device address access whim host legal attached kept.1
-    ]
+release_ends frames before between rest unmap domain device address access whim host legal =
+    release_ends_reach frames before between (reaching device address access whim host ∷ rest) unmap domain device address access host legal
+    (reached_after frames (before ++ unmap ∷ between) rest device address access whim host legal)

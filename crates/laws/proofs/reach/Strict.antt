@@ -11,6 +11,7 @@ use Rattle.dmatypes.specs.Step.{IsStep, next}
 use Rattle.dmatypes.specs.History.{after, IsLegal}
 use Rattle.laws.specs.Events.{Gives, IsAttached, IsOfMode, Occurs, Unmaps, reaching}
 use Rattle.laws.proofs.reach.Mapped.{bare_none}
+use Rattle.laws.proofs.reach.Reached.{IsReached, reached_after}
 use Rattle.laws.proofs.reach.Since.{given_since}
 use Rattle.laws.proofs.worlds.Kept.{IsExplained, kept_none, kept_step}
 use Rattle.laws.proofs.worlds.Live.{unmapped_live, without_here}
@@ -40,18 +41,27 @@ kept_strict w e d p step u mode =
     bare_none (unmapped_by by.0.mode (range_at u.0 u.1) by.0) p t bare
     (subst (λ (x : Domain). IsRetired x p t) (sym (same_Some _ v at)) retired)))
 
+-- whatever is reached after the history
+pub strict_ends_reach : (frames : ℕ) (before between more : List Event) (unmap : Event) (domain device address : ℕ) (access : Access)
+    (host : ℕ) → IsLegal frames ((before ++ unmap ∷ between) ++ more)
+    → IsReached (after frames (before ++ unmap ∷ between)) device address access host
+    → IsOfMode modes.Strict domain before → Unmaps domain (page_of address) unmap
+    → IsAttached device domain (before ++ unmap ∷ between) → Occurs (Gives domain address access host) between
+strict_ends_reach frames before between more unmap domain device address access host legal reached strict unmaps attached =
+    let p = page_of address in
+    let from = legal_from (empty frames) before unmap between more legal in
+    let w = after frames before in
+    let legal_before =
+    legal_front (empty frames) before (unmap ∷ between) (legal_front (empty frames) (before ++ unmap ∷ between) more legal) in
+    let first = kept_strict w unmap domain p from.0 unmaps (mode_after frames before modes.Strict domain legal_before strict) in
+    given_since frames before between more unmap domain device address access host legal reached attached
+    (carried (λ es x. IsExplained domain p es (x.domains domain)) (kept_step domain p) [] (next w unmap.call unmap.reply) between first
+    (legal_front (next w unmap.call unmap.reply) between more from.1))
+
 pub strict_ends : (frames : ℕ) (before between rest : List Event) (unmap : Event) (domain device address : ℕ) (access : Access)
     (whim : Whim) (host : ℕ) → IsLegal frames ((before ++ unmap ∷ between) ++ reaching device address access whim host ∷ rest)
     → IsOfMode modes.Strict domain before → Unmaps domain (page_of address) unmap
     → IsAttached device domain (before ++ unmap ∷ between) → Occurs (Gives domain address access host) between
-strict_ends frames before between rest unmap domain device address access whim host legal strict unmaps attached =
-    let p = page_of address in
-    let dma = reaching device address access whim host ∷ rest in
-    let from = legal_from (empty frames) before unmap between dma legal in
-    let w = after frames before in
-    let legal_before =
-    legal_front (empty frames) before (unmap ∷ between) (legal_front (empty frames) (before ++ unmap ∷ between) dma legal) in
-    let first = kept_strict w unmap domain p from.0 unmaps (mode_after frames before modes.Strict domain legal_before strict) in
-    given_since frames before between rest unmap domain device address access whim host legal attached
-    (carried (λ es x. IsExplained domain p es (x.domains domain)) (kept_step domain p) [] (next w unmap.call unmap.reply) between first
-    (legal_front (next w unmap.call unmap.reply) between dma from.1))
+strict_ends frames before between rest unmap domain device address access whim host legal =
+    strict_ends_reach frames before between (reaching device address access whim host ∷ rest) unmap domain device address access host legal
+    (reached_after frames (before ++ unmap ∷ between) rest device address access whim host legal)
