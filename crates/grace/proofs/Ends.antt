@@ -53,7 +53,8 @@ strict_ends_hits frames address host count domain access port port' history befo
 -- what released the pages did so whatever follows
 released_still : (domain : ℕ) (until more : List Event) → IsReleased domain until → IsReleased domain (until ++ more)
 released_still domain until more (inl all) = inl (occurs_left (ReleasesAll domain) until more all)
-released_still domain until more (inr (number, turn)) = inr (number, turn_still (Begins domain number) (Reaps domain number) until more turn)
+released_still domain until more (inr (number, turn)) =
+    inr (number, turn_still (Begins domain number) (Reaps domain number) until more turn)
 
 pub releases_end : ReleasesEndHits
 releases_end frames address host count domain access port port' history before until rest unmap hit front is number lazy unmaps released
