@@ -355,7 +355,8 @@ struct vtdm_answer vtdm_width_of(struct vtdm *manager, uint64_t domain);
  * WHAT IS PROVED, of a unit that does what docs/PROVED.md takes for granted (crates/moments, crates/quiet, crates/driven). The effects
  * bring each word and each context entry that the call has changed, and send all its descriptors in their order. Whatever of them has
  * reached memory, the unit finds each page as before the call or as after it; in place, so during a map or an unmap (MEMORY). After the
- * last of them it has nothing cached of what the call set free. That you do what they ask is yours. */
+ * last of them it has nothing cached of what the call set free; in place that is proved of the pages of a strict unmap alone. That you do
+ * what they ask is yours. */
 
 /* What an effect asks. The comment names the members that it uses; the others are 0. */
 enum vtdm_effect_kind {
