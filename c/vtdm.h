@@ -51,8 +51,9 @@
  * asked for by one malloc of VTDM_PAGE_BYTES times the frames and written whole before a creation returns. Those of frame F begin
  * F * VTDM_PAGE_BYTES bytes after those of frame 0, where the block begins. So an allocator that puts this block at host address 0
  * lets a unit walk the tables in place, where the base is 0 (see *A unit of your own*). Contracts say that the words of one frame lie one
- * after the other, and that whoever walks them during a map or an unmap finds each page as before it or as after it. Two more things are
- * how the code is. The frames lie so. A word is stored at once.
+ * after the other, and that whoever walks them during a map or an unmap finds each page as before it or as after it. Three more things are
+ * how the code is. The frames lie so. Its stores are compiled in their order. A word is stored at once, but two and more side by side are
+ * cleared by memset: in place yours has to store each of them at once.
  *
  * IT DOES NOT WEAR OUT. A manager answers VTDM_CALLS_END calls, 2^56, and VTDM_SPENT to each further one, since its counts have 64
  * bits. Nobody gets there: at a billion calls a second it takes more than two years. Readers are not counted; vtdm_detach_all counts

@@ -25,9 +25,16 @@ void *memmove(void *to, const void *from, size_t bytes) {
     return to;
 }
 
+/* A word of 64 bits that lies whole in the block is stored at once: where the tables lie in place, a unit may read it meanwhile. */
+typedef volatile uint64_t __attribute__((may_alias)) word;
+
 void *memset(void *to, int byte, size_t bytes) {
     uint8_t *t = to;
-    while (bytes--)
+    for (; bytes && (uintptr_t)t % sizeof(word); bytes--)
+        *t++ = (uint8_t)byte;
+    for (; bytes >= sizeof(word); bytes -= sizeof(word), t += sizeof(word))
+        *(word *)t = 0x0101010101010101 * (uint8_t)byte;
+    for (; bytes; bytes--)
         *t++ = (uint8_t)byte;
     return to;
 }
