@@ -12,8 +12,9 @@ use std::sync::atomic::{AtomicIn, Ordering, Rule};
 /// history may use the memory for something else, where no other page is mapped to it, once certain threads are past n. They are those
 /// of all devices that were attached to the domain at any moment between the map and event n, also where they are detached by then. What
 /// they were answered before is out of use. And a port that has seen n events answers nothing by the page any more, until a map gives it
-/// back. For what ports and shares have seen are beginnings of one history. In a lazy domain n is the number of the event that released
-/// the page: a flush, a reap, an unmap that answers 256, or a drop. Each thread has a `Quiet` of its own; nothing refuses a second one.
+/// back: so the laws of crate `grace` say. For what ports and shares have seen are beginnings of one history. In a lazy domain n is the
+/// number of the event that released the page: a flush, a reap, an unmap that answers 256, or a drop. Each thread has a `Quiet` of its
+/// own; nothing refuses a second one.
 ///
 /// The rule is what its user says of each count at which the thread rests, and of 0 from where it begins. Whoever asks how far the thread
 /// is learns that the rule holds of the number by which it is answered. Who wants none takes a rule that all numbers meet.
