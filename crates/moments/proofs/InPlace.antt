@@ -178,7 +178,48 @@ splits m last (n ∷ ns) (suc j) f k leaf on inside taken is =
     other)
     (on.0.words f k inside taken)
 
+-- ---- a word that is at the end as it was
+
+-- where it stays or goes, it stayed
+stayed : (m last : Moment) (ms : List Moment) (j f k : ℕ) → word last.words f k ≡ word m.words f k → StaysOrGoes m ms last j f k
+    → word (words_at m.words ms j) f k ≡ word m.words f k
+stayed m last ms j f k same (inl now) = now
+stayed m last ms j f k same (inr gone) = gone.0 ∙ sym gone.1 ∙ same
+
+-- a leaf of 2 MiB that is there at the end wasn't split
+unsplit : (m last : Moment) (ms : List Moment) (j f k : ℕ) (leaf : Target) → k < TABLE_ENTRIES → look 2 (word m.words f k) ≡ LargeLeaf leaf
+    → word last.words f k ≡ word m.words f k → IsSplitBy m ms last j f k leaf → ⊥
+unsplit m last ms j f k leaf inside is same split =
+    ⊎_elim
+    (λ (stays : word last.words f k ≡ word split.named.words f k).
+    differ leaf split.table (sym is ∙ ap (look 2) (sym same ∙ stays) ∙ split.is))
+    (λ (gone : word last.words f k ≡ 0). no_leaf leaf (sym is ∙ ap (look 2) (sym same ∙ gone) ∙ look-zero 2))
+    (ends split.named last split.rest f k split.through inside split.frame
+    (table_small 2 (word split.named.words f k) split.table split.is))
+
+-- so it is after each of the moments
+pub unmap_steady : (m last : Moment) (ms : List Moment) (j f k : ℕ) → GoesThrough GoesOn m ms last → k < TABLE_ENTRIES
+    → occurs f m.free ≡ 0 → word last.words f k ≡ word m.words f k → word (words_at m.words ms j) f k ≡ word m.words f k
+unmap_steady m last ms j f k through inside taken same = by_entry (look 2 (word m.words f k)) refl
+  where
+    small : IsSmall (word m.words f k) → word (words_at m.words ms j) f k ≡ word m.words f k
+    small none = stayed m last ms j f k same (evolves m last ms j f k through inside taken none)
+
+    by_entry : (e : SsEntry) → look 2 (word m.words f k) ≡ e → word (words_at m.words ms j) f k ≡ word m.words f k
+    by_entry Absent is = small (λ x h. no_leaf x (sym h ∙ is))
+    by_entry (Table c) is = small (table_small 2 (word m.words f k) c is)
+    by_entry (Leaf x) is = small (leaf_small 2 (word m.words f k) x is)
+    by_entry (LargeLeaf x) is =
+        ⊎_elim (λ whole. stayed m last ms j f k same whole) (λ split. absurd (unsplit m last ms j f k x inside is same split))
+        (splits m last ms j f k x through inside taken is)
+
 -- ---- the walk
+
+-- what it sees at one entry
+pub in_place_at : (words : List ℕ) (ms : List Moment) (t : ℕ → ℕ) (l f k : ℕ)
+    → in_place words ms t l f k ≡ look l (word (words_at words ms (t l)) f k)
+unfolding in_place
+in_place_at words ms t l f k = refl
 
 module _ (old : Pool) (last : Moment) (ms : List Moment) (through : GoesThrough GoesOn (moment_of old) ms last) (t : ℕ → ℕ)
     (down : GoesDown t) where
@@ -197,8 +238,7 @@ module _ (old : Pool) (last : Moment) (ms : List Moment) (through : GoesThrough 
       ⊎ ((leaf_from Seen l table p ≡ None) × (leaf_from (memory last.words) l table p ≡ None)))
 
   seen_at : (l table k w : ℕ) (e : SsEntry) → word (words_at old.words ms (t l)) table k ≡ w → look l w ≡ e → Seen l table k ≡ e
-  unfolding in_place
-  seen_at l table k w e same is = ap (look l) same ∙ is
+  seen_at l table k w e same is = in_place_at old.words ms t l table k ∙ ap (look l) same ∙ is
 
   at_end : (l table k w : ℕ) (e : SsEntry) → word last.words table k ≡ w → look l w ≡ e → memory last.words l table k ≡ e
   at_end l table k w e same is = memory_at last.words l table k ∙ ap (look l) same ∙ is

@@ -7,5 +7,5 @@ pub mod Matters
 pub mod Others
 pub mod Walks
 pub mod ReadWords
-pub mod MapsInPlace
 pub mod InPlace
+pub mod MapsInPlace

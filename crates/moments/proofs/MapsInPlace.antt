@@ -10,6 +10,7 @@ use Rattle.tables.proofs.walks.Words.{memory_at}
 use Rattle.moments.specs.Laws.{MapsInPlaceAreOldOrNew}
 use Rattle.moments.specs.Moments.{in_place, words_at}
 use Rattle.moments.proofs.Between.{IsBetween}
+use Rattle.moments.proofs.InPlace.{in_place_at}
 use Rattle.moments.proofs.Maps.{map_leaf}
 use Rattle.moments.proofs.Passed.{map_passed}
 use Rattle.moments.proofs.Walks.{by_width, near}
@@ -46,15 +47,21 @@ first_or_last m last (n ∷ ns) (suc j) f k on inside =
     (λ end. inr end)
     (first_or_last n last ns j f k on.1 inside)
 
+-- so one that is at the end as it was is so after each of them
+pub map_steady : (m last : Moment) (ms : List Moment) (j f k : ℕ) → GoesThrough FillsIn m ms last → k < TABLE_ENTRIES
+    → word last.words f k ≡ word m.words f k → word (words_at m.words ms j) f k ≡ word m.words f k
+map_steady m last ms j f k through inside same =
+    ⊎_elim (λ first. first) (λ end. end ∙ same) (first_or_last m last ms j f k through inside)
+
 between_in_place : (old new : Pool) (order : FillsInOrder old new) (moment : ℕ → ℕ)
     → IsBetween old new (in_place old.words order.moments moment)
-unfolding in_place
 between_in_place old new order moment l t k inside =
+    let at = in_place_at old.words order.moments moment l t k in
     ⊎_elim
     (λ (first : word (words_at old.words order.moments (moment l)) t k ≡ word old.words t k).
-    inl (ap (look l) first ∙ sym (memory_at old.words l t k)))
+    inl (at ∙ ap (look l) first ∙ sym (memory_at old.words l t k)))
     (λ (end : word (words_at old.words order.moments (moment l)) t k ≡ word new.words t k).
-    inr (ap (look l) end ∙ sym (memory_at new.words l t k)))
+    inr (at ∙ ap (look l) end ∙ sym (memory_at new.words l t k)))
     (first_or_last (moment_of old) (moment_of new) order.moments (moment l) t k order.through inside)
 
 pub maps_in_place : MapsInPlaceAreOldOrNew
