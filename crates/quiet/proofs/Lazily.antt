@@ -1,5 +1,5 @@
 -- A flush, and an unmap that flushes first: what the descriptor leaves.
-use Rattle.std.proofs.Common.{◌≡◌, ◌≢◌, ◌⊎◌, inl, inr, ⊎_elim, ℕ, ◌+◌, ◌/◌, ◌<◌, ◌≤◌, false, Some, None, refl, sym, ap, subst}
+use Rattle.std.proofs.Common.{◌≡◌, ◌≢◌, ◌⊎◌, inl, inr, ⊎_elim, ℕ, ◌+◌, ◌/◌, ◌<◌, ◌≤◌, false, Some, None, sym, ap, subst}
 use Rattle.std.proofs.Common.{◌∙◌, arith}
 use Rattle.std.proofs.lemmas.Bool.{cases_lt}
 use Rattle.std.proofs.lemmas.Option.{none-some, same_Some}
@@ -29,7 +29,8 @@ use Rattle.engine.specs.State.{Becomes, State, operands_in}
 use Rattle.engine.specs.Steps.{Does}
 use Rattle.quiet.specs.Laws.{FlushesForget, FullListsForget}
 use Rattle.quiet.specs.Quiet.{HoldsPageOf, IsEntry, IsInPlace, IsSound}
-use Rattle.quiet.proofs.Calls.{own_unmap, unmap_pages}
+use Rattle.quiet.proofs.Calls.{unmap_pages}
+use Rattle.quiet.proofs.Unmapping.{own_unmap, written_after_flush}
 use Rattle.quiet.proofs.Every.{domain_then}
 use Rattle.quiet.proofs.Kept.{entry_apart, place_apart, unstated}
 use Rattle.quiet.proofs.Sent.{sent_last}
@@ -120,11 +121,9 @@ module _ (m t : State) (d address pages released : ℕ) (h : Domain) (whole : Is
     (r : Record) (inside : IsIn r h.records) where
   unmap : IsUnmap p.roomy.pool t.pool h.width h.root p.retired.range p.retired.cut.frames
   unmap =
-      own_unmap m t d h whole there (range_at address pages) (unmap_pages m t d address pages released h whole there does) d h there
-      p.roomy.pool t.pool p.roomy.domain p.between p.retired e.flushes.releases.words refl
-      (ap (λ (y : Domain). y.width) e.flushes.same) (ap (λ (y : Domain). y.root) e.flushes.same)
-      (λ g. omega (arith, e.flushes.releases.free g)) e.flushes.releases.zeroed p.of_range e.flushes.releases.last
-      e.flushes.releases.is_space p.retires
+      own_unmap m t d h whole there (range_at address pages) released
+      (written_after_flush m t d h whole there (range_at address pages) released new p e)
+      (unmap_pages m t d address pages released h whole there does)
 
   -- a page of a record isn't stated by the tree that is left either
   still_unstated : (n : ℕ) → r.range.first ≤ n → n < r.range.first + r.range.pages

@@ -1,5 +1,7 @@
 pub mod Changes
 pub mod Calls
+pub mod Unmapping
+pub mod Written
 pub mod Every
 pub mod WhatIsMet
 pub mod Sent

@@ -1,5 +1,5 @@
 -- A strict unmap: what its descriptor leaves.
-use Rattle.std.proofs.Common.{◌≡◌, ◌⊎◌, inl, inr, ℕ, ◌+◌, ◌^◌, ◌<◌, ◌≤◌, Bool, false, Some, refl, sym, ap, subst, ◌∙◌, arith}
+use Rattle.std.proofs.Common.{◌≡◌, ◌⊎◌, inl, inr, ℕ, ◌+◌, ◌^◌, ◌<◌, ◌≤◌, Bool, false, Some, sym, ap, subst, ◌∙◌, arith}
 use Rattle.std.proofs.lemmas.Bool.Decides.{nat_tests}
 use Rattle.std.proofs.lemmas.Option.{none-some, same_Some}
 use Rattle.dmatypes.specs.Block.{Block}
@@ -31,7 +31,8 @@ use Rattle.tables.specs.Tree.{root_states}
 use Rattle.quiet.specs.Laws.{StrictUnmapsInPlaceAreOldOrNew}
 use Rattle.quiet.specs.Laws.{StrictUnmapsForgetPages, StrictUnmapsForgetSinglePages, StrictUnmapsForgetTables}
 use Rattle.quiet.specs.Quiet.{HoldsPageOf, IsDoneLast, IsEntry, IsInPlace, IsSound}
-use Rattle.quiet.proofs.Calls.{free_zeroed, own_unmap, unmap_pages}
+use Rattle.quiet.proofs.Calls.{unmap_pages}
+use Rattle.quiet.proofs.Unmapping.{own_unmap, written_strictly}
 use Rattle.quiet.proofs.Every.{domain_then}
 use Rattle.quiet.proofs.Sent.{sent_last}
 use Rattle.quiet.proofs.WhatIsMet.{cached_during, used_on}
@@ -73,11 +74,8 @@ module _ (m t : State) (d address pages released : ℕ) (h : Domain) (whole : Is
 
   unmap : IsUnmap m.pool u.pool_between h.width h.root u.retired.range u.retired.cut.frames
   unmap =
-      own_unmap m t d h whole there (range_at address pages) (unmap_pages m t d address pages released h whole there does) d h there m.pool
-      u.pool_between h u.between u.retired refl (sym u.releases.words) refl refl (λ f. omega arith) (free_zeroed m t d h whole there)
-      u.of_range refl
-      (both_there m.pool.words (domain_at m.domains d) (whole.of_world.0.domains d) h (whole.of_world.1.domains d) there).2.pieces.is_space
-      u.retires
+      own_unmap m t d h whole there (range_at address pages) released (written_strictly m t d h whole there (range_at address pages) released new u)
+      (unmap_pages m t d address pages released h whole there does)
 
   start : u.retired.range.first < span (levels h.width)
   start = omega (arith, unmap.below.0, unmap.below.1, span-levels h.width)
