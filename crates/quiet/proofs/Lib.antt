@@ -13,3 +13,4 @@ pub mod Onward
 pub mod Reaps
 pub mod Staying
 pub mod ReadWords
+pub mod InPlace

@@ -1,5 +1,5 @@
 -- A strict unmap: what its descriptor leaves.
-use Rattle.std.proofs.Common.{◌≡◌, ◌⊎◌, inl, inr, ℕ, ◌+◌, ◌^◌, ◌<◌, ◌≤◌, Bool, false, Some, sym, ap, subst, ◌∙◌, arith}
+use Rattle.std.proofs.Common.{◌≡◌, inl, inr, ℕ, ◌+◌, ◌^◌, ◌<◌, ◌≤◌, Bool, false, Some, sym, ap, subst, ◌∙◌, arith}
 use Rattle.std.proofs.lemmas.Bool.Decides.{nat_tests}
 use Rattle.std.proofs.lemmas.Option.{none-some, same_Some}
 use Rattle.dmatypes.specs.Block.{Block}
@@ -18,17 +18,13 @@ use Rattle.moments.specs.Moments.{IsUnmap}
 use Rattle.unit.specs.Caches.{CachedLeaf, CachedNonLeaf}
 use Rattle.unit.specs.Filters.{drops_leaf, drops_non_leaf}
 use Rattle.engine.proofs.caches.StrictRange.{sent_covers, strict_apart, strict_table}
-use Rattle.engine.proofs.domains.OneChanged.{both_there, domain_low}
+use Rattle.engine.proofs.domains.OneChanged.{domain_low}
 use Rattle.engine.proofs.frames.Owners.{tree_of}
 use Rattle.engine.proofs.requests.Read.{hold_high, hold_low}
 use Rattle.engine.specs.Domains.{Domain, domain_at}
 use Rattle.engine.specs.Ending.{ByMode, EndsBy, PutsOff, UnmapsStrictly, hint_of}
 use Rattle.engine.specs.State.{Becomes, State, operands_in}
 use Rattle.engine.specs.Steps.{Does}
-use Rattle.moments.proofs.InPlace.{in_place_old_or_new}
-use Rattle.moments.specs.Moments.{in_place}
-use Rattle.tables.specs.Tree.{root_states}
-use Rattle.quiet.specs.Laws.{StrictUnmapsInPlaceAreOldOrNew}
 use Rattle.quiet.specs.Laws.{StrictUnmapsForgetPages, StrictUnmapsForgetSinglePages, StrictUnmapsForgetTables}
 use Rattle.quiet.specs.Quiet.{HoldsPageOf, IsDoneLast, IsEntry, IsInPlace, IsSound}
 use Rattle.quiet.proofs.Calls.{unmap_pages}
@@ -153,24 +149,6 @@ pub strict_single_pages : StrictUnmapsForgetSinglePages
 strict_single_pages m t d address pages released h x leaf whole does there strict last here one left =
     let s = strictly m t d address pages released h whole does.becomes there strict in
     none_single m t d address pages released h whole does there x last s.0 s.1 s.2 leaf here one left
-
-pub strict_in_place : StrictUnmapsInPlaceAreOldOrNew
-strict_in_place m t d address pages released h whole does there strict =
-    let s = strictly m t d address pages released h whole does.becomes there strict in
-    let u = s.1 in
-    let order = u.retires.order in
-    let q = whole.of_world.1 in (
-      order.moments,
-      u.releases.trail ∙ order.trail,
-      λ moment page down.
-          subst (λ ws. (root_states (in_place m.pool.words order.moments moment) h.width h.root page
-          ≡ root_states (memory m.pool.words) h.width h.root page)
-          ⊎ (root_states (in_place m.pool.words order.moments moment) h.width h.root page ≡ root_states (memory ws) h.width h.root page))
-          (sym u.releases.words)
-          (in_place_old_or_new m.pool u.pool_between order h.width h.root moment page
-          (tree_of m.pool (domain_at m.domains) d h q.frames (domain_low m.domains d h whole.places there) there)
-          (both_there m.pool.words (domain_at m.domains d) (whole.of_world.0.domains d) h (q.domains d) there).2.spelled down),
-    )
 
 pub strict_tables : StrictUnmapsForgetTables
 strict_tables m t d address pages released h x table whole does there strict last here cached left =

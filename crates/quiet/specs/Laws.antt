@@ -16,7 +16,7 @@ use Rattle.vtdbits.specs.declared.descriptor.Descriptor.{Descriptor}
 use Rattle.vtdbits.specs.declared.descriptor.Descriptor.TheVariants.{IotlbDomain}
 use Rattle.tables.specs.Pool.{Moment, memory, occurs}
 use Rattle.tables.specs.Tree.{root_states}
-use Rattle.moments.specs.Moments.{GoesDown, in_place, IsFilledFirst, IsOldOrAbsent, IsOldOrNew, Reached, ReadsSpelled}
+use Rattle.moments.specs.Moments.{GoesDown, in_place, IsFilledFirst, IsOldOrAbsent, IsOldOrNew, IsOldOrNewIn, Reached, ReadsSpelled}
 use Rattle.unit.specs.Caches.{CachedContext, CachedFault, CachedLeaf, CachedNonLeaf}
 use Rattle.unit.specs.Filters.{drops_context, drops_fault, drops_leaf, drops_non_leaf}
 use Rattle.engine.specs.declared.record.Record.{Record}
@@ -86,6 +86,34 @@ CachesStay =
     → ((leaf : CachedLeaf) → IsEntry m.pool.words h leaf ⊎ IsMetDuring m t h leaf → IsEntry t.pool.words h leaf)
     × ((table : CachedNonLeaf) → IsInPlace m.pool.words h table ⊎ IsPassedDuring m t h table → IsInPlace t.pool.words h table)
 
+-- ---- where the tables lie in place
+
+-- A walk that reads their words while a map writes them, each level at any moment, finds each page as before the call or as after it. So it
+-- is in each domain that is there. The leaf that it meets and each table that it passes, which may be cached, are of before the call or of
+-- after it too.
+abbrev pub MapCallsInPlaceAreOldOrNew : Type 0
+MapCallsInPlaceAreOldOrNew =
+    (m t : State) (call : Call) (address domain : ℕ) (h : Domain)
+    → IsSound m
+    → Does m call (Mapped address) t
+    → domain_at m.domains domain ≡ Some h
+    → (moments : List Moment) × (t.pool.trail ≡ m.pool.trail ++ moments)
+    × ((moment : ℕ → ℕ) (page : ℕ)
+    → IsOldOrNewIn m.pool.words t.pool.words (in_place m.pool.words moments moment) h.width h.root page)
+
+-- A walk that reads them while an unmap writes them, each level no sooner than the level above, finds each page as before the call or as
+-- after it. So it is in each domain that is there, whether the unmap is strict or lazy, and also where it flushes first.
+abbrev pub UnmapCallsInPlaceAreOldOrNew : Type 0
+UnmapCallsInPlaceAreOldOrNew =
+    (m t : State) (call : Call) (released domain : ℕ) (h : Domain)
+    → IsSound m
+    → Does m call (Unmapped released) t
+    → domain_at m.domains domain ≡ Some h
+    → (moments : List Moment) × (t.pool.trail ≡ m.pool.trail ++ moments)
+    × ((moment : ℕ → ℕ) (page : ℕ) → GoesDown moment
+    → (root_states (in_place m.pool.words moments moment) h.width h.root page ≡ root_states (memory m.pool.words) h.width h.root page)
+    ⊎ (root_states (in_place m.pool.words moments moment) h.width h.root page ≡ root_states (memory t.pool.words) h.width h.root page))
+
 -- ---- strict domains
 
 -- Once a strict unmap's descriptor is done, no leaf of the domain that was cached before the call or during it, and that the descriptor
@@ -117,20 +145,6 @@ StrictUnmapsForgetSinglePages =
     → leaf.pages ≡ 1
     → drops_leaf d leaf ≡ false
     → HoldsPageOf leaf (range_at address pages) → ⊥
-
--- Where the tables lie in place, a walk that reads their words while a strict unmap writes them, each level no sooner than the level above,
--- finds each page of the domain as before the call or as after it.
-abbrev pub StrictUnmapsInPlaceAreOldOrNew : Type 0
-StrictUnmapsInPlaceAreOldOrNew =
-    (m t : State) (domain address pages released : ℕ) (h : Domain)
-    → IsSound m
-    → Does m (calls.Unmap domain address pages) (Unmapped released) t
-    → domain_at m.domains domain ≡ Some h
-    → h.mode ≡ Strict
-    → (moments : List Moment) × (t.pool.trail ≡ m.pool.trail ++ moments)
-    × ((moment : ℕ → ℕ) (page : ℕ) → GoesDown moment
-    → (root_states (in_place m.pool.words moments moment) h.width h.root page ≡ root_states (memory m.pool.words) h.width h.root page)
-    ⊎ (root_states (in_place m.pool.words moments moment) h.width h.root page ≡ root_states (memory t.pool.words) h.width h.root page))
 
 -- Nor is a table of the domain one that was cut. Each that was cached before the call or during it, and that the descriptor leaves, is
 -- in its place in the tree that is left, and no free frame.

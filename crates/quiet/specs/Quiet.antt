@@ -6,6 +6,8 @@
 use Rattle.std.specs.Prelude.{◌≡◌, ◌⊎◌, ℕ, ◌<◌, IsTrue, List, [], ◌∷◌, false, length, Some, slice_get}
 use Rattle.dmatypes.specs.declared.limits.TheConstants.{MOST_DOMAINS}
 use Rattle.dmatypes.specs.declared.reply.Event.{Event}
+use Rattle.dmatypes.specs.declared.reply.Reply.{Reply}
+use Rattle.dmatypes.specs.declared.reply.Reply.TheVariants.{Mapped, Unmapped}
 use Rattle.dmatypes.specs.Page.{IsWithin, Range, levels, pages_end}
 use Rattle.vtdbits.specs.declared.context.ContextEntry.TheVariants.{Present}
 use Rattle.vtdbits.specs.declared.descriptor.Descriptor.{Descriptor}
@@ -63,6 +65,12 @@ abbrev pub IsPassedDuring : State → State → Domain → CachedNonLeaf → Typ
 IsPassedDuring m t h table =
     (reached : Reached) × IsFilledFirst m.pool.words t.pool.words reached
     × IsPassedIn (meanwhile m.pool.words t.pool.words reached) h table
+
+-- this is the answer of a map or an unmap that was done
+abbrev pub IsMapOrUnmap : Reply → Type 0
+IsMapOrUnmap (Mapped address) = Unit {0}
+IsMapOrUnmap (Unmapped released) = Unit {0}
+IsMapOrUnmap reply = ⊥
 
 -- ---- descriptors
 

@@ -5,8 +5,8 @@
 
 ghost use Rattle.quiet.specs.Laws.{CachedDuringIsOldOrNew, CachesStay, CallsAreOldOrNew, CallsReadSpelledWords, DetachesForget};
 ghost use Rattle.quiet.specs.Laws.{DropsAreOldOrAbsent, DropsForget, FlushesForget, FullListsForget, MapsForgetFaults};
-ghost use Rattle.quiet.specs.Laws.{MapsOfOneForgetFaults, ReapsForget, StrictUnmapsForgetPages};
-ghost use Rattle.quiet.specs.Laws.{StrictUnmapsForgetSinglePages, StrictUnmapsForgetTables, StrictUnmapsInPlaceAreOldOrNew};
+ghost use Rattle.quiet.specs.Laws.{MapCallsInPlaceAreOldOrNew, MapsOfOneForgetFaults, ReapsForget, StrictUnmapsForgetPages};
+ghost use Rattle.quiet.specs.Laws.{StrictUnmapsForgetSinglePages, StrictUnmapsForgetTables, UnmapCallsInPlaceAreOldOrNew};
 
 /// Whatever words of a call have reached memory, a walk finds each page of a domain as before the call or as after it. Of the domain that
 /// a drop ends, as before or not at all.
@@ -26,12 +26,23 @@ pub fn caches_stay()
     ensures { CachesStay }
 {}
 
+/// Where the tables lie in place, a walk that reads their words while a map writes them finds each page of a domain as before it or as
+/// after it.
+pub fn map_calls_in_place_are_old_or_new()
+    ensures { MapCallsInPlaceAreOldOrNew }
+{}
+
+/// One that reads them while an unmap writes them, strict or lazy, each level no sooner than the level above, finds each page of a domain as
+/// before it or as after it.
+pub fn unmap_calls_in_place_are_old_or_new()
+    ensures { UnmapCallsInPlaceAreOldOrNew }
+{}
+
 /// Once a strict unmap's descriptor is done, no cached leaf holds an unmapped page: of those of the tree before it or after it, and of
 /// those of a single page.
 pub fn strict_unmaps_forget_pages()
     ensures leaves { StrictUnmapsForgetPages }
     ensures single { StrictUnmapsForgetSinglePages }
-    ensures in_place { StrictUnmapsInPlaceAreOldOrNew }
 {}
 
 /// Nor is a cached table one that was cut.

@@ -1,4 +1,4 @@
-use Rattle.quiet.proofs.Strictly.{strict_in_place, strict_pages, strict_single_pages}
+use Rattle.quiet.proofs.Strictly.{strict_pages, strict_single_pages}
 use Rattle.quiet.proofs.strict_unmaps_forget_pages.Goals as goal
 
 pub returns-clause-leaves : goal.returns-clause-leaves
@@ -6,6 +6,3 @@ returns-clause-leaves c = strict_pages
 
 pub returns-clause-single : goal.returns-clause-single
 returns-clause-single c = strict_single_pages
-
-pub returns-clause-in_place : goal.returns-clause-in_place
-returns-clause-in_place c = strict_in_place
