@@ -79,13 +79,13 @@ module _ (m t : State) (call : Call) (reply : Reply) (whole : IsSound m) where
 
 module _ (m t : State) (call : Call) (reply : Reply) (whole : IsSound m) (d : ℕ) (h : Domain) (there : domain_at m.domains d ≡ Some h)
     (given : IsMapOrUnmap reply) where
-  -- what a walk finds, meets and passes that reads each level at any moment
+  -- what a walk finds, meets and passes, whatever the moments at which it reads
   abbrev FindsAll : List Moment → Domain → Type 0
   FindsAll moments x =
       (moment : ℕ → ℕ) (page : ℕ)
       → IsOldOrNewIn m.pool.words t.pool.words (in_place m.pool.words moments moment) x.width x.root page
 
-  -- and what it finds where it reads each level no sooner than the level above
+  -- what it finds if it reads each level no sooner than the level above
   abbrev FindsFrom : List ℕ → List ℕ → List Moment → Domain → Type 0
   FindsFrom old new moments x =
       (moment : ℕ → ℕ) (page : ℕ) → GoesDown moment
@@ -99,19 +99,16 @@ module _ (m t : State) (call : Call) (reply : Reply) (whole : IsSound m) (d : �
   other_finds : (w : Written m t call reply) → (IsOf m t call reply d h whole there w → ⊥)
       → FindsAll (noted m t call reply whole w given).moments h
   other_finds w ne moment page =
-      steady m.pool.words t.pool.words (in_place m.pool.words moments moment) h.width h.root page
-      (to_agree (memory m.pool.words) (in_place m.pool.words moments moment) (levels h.width) h.root
-      (λ f some l i inside. in_place_at m.pool.words moments moment l f i
+      steady m.pool.words t.pool.words (in_place m.pool.words n.moments moment) h.width h.root page
+      (to_agree (memory m.pool.words) (in_place m.pool.words n.moments moment) (levels h.width) h.root
+      (λ f some l i inside. in_place_at m.pool.words n.moments moment l f i
       ∙ ap (look l) (n.kept (moment l) f i (other_out m t call reply d h whole there w f ne (omega (arith, some))) inside)
       ∙ sym (memory_at m.pool.words l f i)))
     where
       n : Noted m t call reply w
       n = noted m t call reply whole w given
 
-      moments : List Moment
-      moments = (noted m t call reply whole w given).moments
-
-  -- where it is a map
+  -- after a map
   map_finds : (e : ℕ) (k new : Domain) (at : Placement) (here : domain_at m.domains e ≡ Some k) (some : 1 ≤ total_pages at.segments)
       (places : Places m.pool k at t.pool new) → FindsAll (places.order (spelled_in m e k whole here)).moments h
   map_finds e k new at here some places = elim (same_or_not d e) [
@@ -125,7 +122,7 @@ module _ (m t : State) (call : Call) (reply : Reply) (whole : IsSound m) (d : �
       order : FillsInOrder m.pool t.pool
       order = places.order (spelled_in m e k whole here)
 
-  -- where it is an unmap
+  -- in the domain of an unmap
   own_finds : (e : ℕ) (k : Domain) (range : Range) (released : ℕ) → domain_at m.domains e ≡ Some k
       → (u : Unmapping m t k range released) → Finds u.retires.order.moments k
   own_finds e k range released here u =
@@ -135,6 +132,7 @@ module _ (m t : State) (call : Call) (reply : Reply) (whole : IsSound m) (d : �
       (own_tree m t e k whole here range released u)
       (subst (λ ws. AreSpelled ws (levels k.width) k.root) (sym u.was) (spelled_in m e k whole here)) down))
 
+  -- after a call that is no unmap
   finds_all : (w : Written m t call reply) → ((released : ℕ) → reply ≡ Unmapped released → ⊥)
       → FindsAll (noted m t call reply whole w given).moments h
   finds_all (rests same trail) no_unmap = other_finds (rests same trail) (λ none. none)
@@ -143,6 +141,7 @@ module _ (m t : State) (call : Call) (reply : Reply) (whole : IsSound m) (d : �
   finds_all (unmaps e k address pages released here some is_call is_reply u) no_unmap = absurd (no_unmap released is_reply)
   finds_all (closes e k here is_reply gone ends) no_unmap = absurd (subst IsMapOrUnmap is_reply given)
 
+  -- after any map or unmap
   finds : (w : Written m t call reply) → Finds (noted m t call reply whole w given).moments h
   finds (rests same trail) = λ moment page down. (other_finds (rests same trail) (λ none. none) moment page).found
   finds (takes e is_reply same) = absurd (subst IsMapOrUnmap is_reply given)

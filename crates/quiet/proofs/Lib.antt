@@ -14,3 +14,4 @@ pub mod Reaps
 pub mod Staying
 pub mod ReadWords
 pub mod InPlace
+pub mod Retired

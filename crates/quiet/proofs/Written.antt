@@ -1,6 +1,7 @@
 -- Which words a call writes: of tables of one tree, and of frames that are free when it does so.
-use Rattle.std.proofs.Common.{◌≡◌, ◌≢◌, ⊎_elim, ℕ, ◌+◌, ◌-◌, ◌<◌, ◌≤◌, Some, None, sym, ap, ◌∙◌, arith, slice_set}
+use Rattle.std.proofs.Common.{◌≡◌, ◌≢◌, inl, inr, ⊎_elim, ℕ, ◌+◌, ◌-◌, ◌<◌, ◌≤◌, Some, None, sym, ap, ◌∙◌, arith, slice_set}
 use Rattle.std.proofs.lemmas.Bool.{cases_lt}
+use Rattle.dmatypes.proofs.histories.Maps.{same_or_not}
 use Rattle.dmatypes.specs.Conditions.{total_pages}
 use Rattle.dmatypes.specs.Page.{Range, levels, range_at}
 use Rattle.dmatypes.specs.declared.call.Call.{Call}
@@ -18,6 +19,7 @@ use Rattle.engine.specs.Placing.{Placement, Places}
 use Rattle.engine.specs.Quarantine.{owned}
 use Rattle.engine.specs.State.{State, operands_in}
 use Rattle.engine.proofs.domains.OneChanged.{domain_low}
+use Rattle.engine.proofs.frames.Owners.{held_out}
 use Rattle.quiet.proofs.Unmapping.{Unmapping}
 use Rattle.quiet.specs.Quiet.{IsSound}
 
@@ -109,3 +111,26 @@ module _ (m t : State) (call : Call) (reply : Reply) (d : ℕ) (h : Domain) (who
   other_out (unmaps e k address pages released here one is_call is_reply u) f ne some =
       omega (arith, only_owner e k here ne f some, same_uses k (range_at address pages) released u f, u.few f)
   other_out (closes e k here is_reply gone does) f ne some = let only = only_owner e k here ne f some in omega (arith, only)
+
+  -- what a record of it holds is of no tree, and not free
+  record_out : (e : ℕ) (k : Domain) → domain_at m.domains e ≡ Some k → (f : ℕ) → 0 < held_in h.records f
+      → uses (memory m.pool.words) (levels k.width) k.root f + occurs f m.pool.free ≡ 0
+  record_out e k here f held =
+      held_out m.pool (domain_at m.domains) e d k h whole.of_world.1.frames (domain_low m.domains e k whole.places here)
+      (domain_low m.domains d h whole.places there) here there f held
+
+  -- what a record of it holds, if the call isn't an unmap of the domain that releases records first
+  pub held_frame_out : (w : Written m t call reply) (f : ℕ)
+      → ((address pages released : ℕ) → call ≡ calls.Unmap d address pages → reply ≡ Unmapped released → released ≡ 0)
+      → 0 < held_in h.records f → IsOut m t call reply w f
+  held_frame_out (rests same trail) f keeps held = tt
+  held_frame_out (takes e is_reply same) f keeps held = tt
+  held_frame_out (maps e k new at here one places) f keeps held = record_out e k here f held
+  held_frame_out (unmaps e k address pages released here one is_call is_reply u) f keeps held = elim (same_or_not d e) [
+    | inl same ↦
+        let none : released ≡ 0 =
+        keeps address pages released (is_call ∙ ap (λ n. calls.Unmap n address pages) (sym same)) is_reply in
+        omega (arith, record_out e k here f held, same_uses k (range_at address pages) released u f, u.none none f)
+    | inr ne ↦ other_out (unmaps e k address pages released here one is_call is_reply u) f ne (omega (arith, held))
+  ]
+  held_frame_out (closes e k here is_reply gone does) f keeps held = let out = record_out e k here f held in omega (arith, out)

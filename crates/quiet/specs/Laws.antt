@@ -14,9 +14,11 @@ use Rattle.dmatypes.specs.declared.reply.Reply.{Reply}
 use Rattle.dmatypes.specs.declared.reply.Reply.TheVariants.{Done, Flushed, Mapped, Reaped, Unmapped}
 use Rattle.vtdbits.specs.declared.descriptor.Descriptor.{Descriptor}
 use Rattle.vtdbits.specs.declared.descriptor.Descriptor.TheVariants.{IotlbDomain}
-use Rattle.tables.specs.Pool.{Moment, memory, occurs}
+use Rattle.tables.specs.Pool.{IsZeroed, Moment, memory, occurs}
 use Rattle.tables.specs.Tree.{root_states}
-use Rattle.moments.specs.Moments.{GoesDown, in_place, IsFilledFirst, IsOldOrAbsent, IsOldOrNew, IsOldOrNewIn, Reached, ReadsSpelled}
+use Rattle.tables.specs.declared.entries.TheConstants.{TABLE_ENTRIES}
+use Rattle.moments.specs.Moments.{GoesDown, in_place, IsFilledFirst, IsOldOrAbsent, IsOldOrNew, IsOldOrNewIn, meanwhile, Reached}
+use Rattle.moments.specs.Moments.{ReadsSpelled, word_read, words_at}
 use Rattle.unit.specs.Caches.{CachedContext, CachedFault, CachedLeaf, CachedNonLeaf}
 use Rattle.unit.specs.Filters.{drops_context, drops_fault, drops_leaf, drops_non_leaf}
 use Rattle.engine.specs.declared.record.Record.{Record}
@@ -24,7 +26,7 @@ use Rattle.engine.specs.Domains.{Domain, domain_at}
 use Rattle.engine.specs.State.{State}
 use Rattle.engine.specs.Steps.{Does, Goes}
 use Rattle.quiet.specs.Quiet.{HoldsPageOf, IsCachedSince, IsDoneLast, IsEntry, IsInPlace, IsMetAmong, IsMetDuring, IsOfRow}
-use Rattle.quiet.specs.Quiet.{IsPassedAmong, IsPassedDuring, IsSound, IsTableCachedSince}
+use Rattle.quiet.specs.Quiet.{IsMapOrUnmap, IsPassedAmong, IsPassedDuring, IsRetired, IsSound, IsTableCachedSince, StatesNothing}
 
 -- ---- any call
 
@@ -162,6 +164,35 @@ StrictUnmapsForgetTables =
     → IsInPlace t.pool.words h table × (occurs table.frame t.pool.free ≡ 0)
 
 -- ---- lazy domains
+
+-- A table that a lazy unmap cut is in no tree, and waits in a record of the domain. A unit that has it cached may begin a walk there, until a
+-- flush has it forget that. Whatever words of a call have reached memory meanwhile, such a walk finds nothing: each word that it reads there
+-- is 0. So it is at every call but an unmap of the domain that flushes first, since that may then use the frame again.
+abbrev pub RetiredTablesStateNothing : Type 0
+RetiredTablesStateNothing =
+    (m t : State) (call : Call) (reply : Reply) (domain frame : ℕ) (h : Domain) (reached : Reached)
+    → IsSound m
+    → Does m call reply t
+    → domain_at m.domains domain ≡ Some h
+    → IsRetired h frame
+    → ((address pages released : ℕ) → call ≡ calls.Unmap domain address pages → reply ≡ Unmapped released → released ≡ 0)
+    → StatesNothing (meanwhile m.pool.words t.pool.words reached) frame
+    × ((level index : ℕ) → index < TABLE_ENTRIES → word_read m.pool.words t.pool.words reached level frame index ≡ 0)
+
+-- Nor does it find anything where the tables lie in place, while a map or such an unmap writes their words: the frame is zeroed all the
+-- time.
+abbrev pub RetiredTablesInPlaceStateNothing : Type 0
+RetiredTablesInPlaceStateNothing =
+    (m t : State) (call : Call) (reply : Reply) (domain frame : ℕ) (h : Domain)
+    → IsSound m
+    → Does m call reply t
+    → IsMapOrUnmap reply
+    → domain_at m.domains domain ≡ Some h
+    → IsRetired h frame
+    → ((address pages released : ℕ) → call ≡ calls.Unmap domain address pages → reply ≡ Unmapped released → released ≡ 0)
+    → (moments : List Moment) × (t.pool.trail ≡ m.pool.trail ++ moments)
+    × ((written : ℕ) → IsZeroed (words_at m.pool.words moments written) frame)
+    × ((moment : ℕ → ℕ) → StatesNothing (in_place m.pool.words moments moment) frame)
 
 -- Once a flush's descriptor is done, nothing of the domain that is cached then or is cached later in the call holds a page of a record
 -- or a table that was cut with one. Whatever was cached, of which nothing is asked, the descriptor leaves none of the domain.

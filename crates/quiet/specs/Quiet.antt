@@ -3,21 +3,25 @@
 -- when that was cached. The laws take for granted four things that a unit has to do. It caches only what a walk met. It uses an entry for
 -- its own domain alone. A descriptor is done only when no walk that began before it will still cache or use what it names. A wait is done
 -- only when all descriptors before it are.
-use Rattle.std.specs.Prelude.{◌≡◌, ◌⊎◌, ℕ, ◌<◌, IsTrue, List, [], ◌∷◌, false, length, Some, slice_get}
+use Rattle.std.specs.Prelude.{◌≡◌, ◌⊎◌, ℕ, ◌<◌, IsTrue, List, [], ◌∷◌, false, length, None, Some, slice_get}
 use Rattle.dmatypes.specs.declared.limits.TheConstants.{MOST_DOMAINS}
 use Rattle.dmatypes.specs.declared.reply.Event.{Event}
 use Rattle.dmatypes.specs.declared.reply.Reply.{Reply}
 use Rattle.dmatypes.specs.declared.reply.Reply.TheVariants.{Mapped, Unmapped}
 use Rattle.dmatypes.specs.Page.{IsWithin, Range, levels, pages_end}
+use Rattle.dmatypes.specs.World.{IsIn}
 use Rattle.vtdbits.specs.declared.context.ContextEntry.TheVariants.{Present}
 use Rattle.vtdbits.specs.declared.descriptor.Descriptor.{Descriptor}
 use Rattle.vtdbits.specs.declared.descriptor.Descriptor.TheVariants.{Wait}
-use Rattle.tables.specs.Pool.{memory}
-use Rattle.tables.specs.Tree.{IsLeafAt, IsTableAt, Memory, leaf_from, span}
+use Rattle.vtdbits.specs.declared.entry.SsEntry.TheVariants.{Absent}
+use Rattle.tables.specs.declared.entries.TheConstants.{TABLE_ENTRIES}
+use Rattle.tables.specs.Pool.{memory, occurs}
+use Rattle.tables.specs.Tree.{IsLeafAt, IsTableAt, Memory, leaf_from, span, table_from}
 use Rattle.moments.specs.Moments.{IsFilledFirst, Reached, meanwhile}
 use Rattle.unit.specs.Caches.{CachedContext, CachedLeaf, CachedNonLeaf}
 use Rattle.unit.specs.Filters.{drops_leaf, drops_non_leaf}
 use Rattle.unit.specs.Walking.{IsPassed, hold, met}
+use Rattle.engine.specs.declared.record.Record.{Record}
 use Rattle.engine.specs.Domains.{Domain, domain_at}
 use Rattle.engine.specs.Quarantine.{IsOfSomeWorld}
 use Rattle.engine.specs.State.{State}
@@ -43,6 +47,10 @@ IsInPlace words h table =
 abbrev pub HoldsPageOf : CachedLeaf → Range → Type 0
 HoldsPageOf leaf range = (page : ℕ) × IsTrue (hold leaf.first leaf.pages page) × IsWithin range page
 
+-- the table frame waits in a record of the domain
+abbrev pub IsRetired : Domain → ℕ → Type 0
+IsRetired h frame = (r : Record) × IsIn r h.records × (0 < occurs frame r.cut.frames)
+
 -- ---- what a walk met
 
 -- a walk of the domain's tree met the leaf, in what it read
@@ -65,6 +73,12 @@ abbrev pub IsPassedDuring : State → State → Domain → CachedNonLeaf → Typ
 IsPassedDuring m t h table =
     (reached : Reached) × IsFilledFirst m.pool.words t.pool.words reached
     × IsPassedIn (meanwhile m.pool.words t.pool.words reached) h table
+
+-- in this memory a walk that begins at the table finds no entry: it meets no leaf, and passes no other table
+pub record StatesNothing (now : Memory) (table : ℕ) : Type 0 where
+  pub entries : (level index : ℕ) → index < TABLE_ENTRIES → now level table index ≡ Absent
+  pub leaves : (level page : ℕ) → leaf_from now level table page ≡ None
+  pub tables : (level page below : ℕ) → below < level → table_from now level table page below ≡ None
 
 -- this is the answer of a map or an unmap that was done
 abbrev pub IsMapOrUnmap : Reply → Type 0

@@ -5,7 +5,8 @@
 
 ghost use Rattle.quiet.specs.Laws.{CachedDuringIsOldOrNew, CachesStay, CallsAreOldOrNew, CallsReadSpelledWords, DetachesForget};
 ghost use Rattle.quiet.specs.Laws.{DropsAreOldOrAbsent, DropsForget, FlushesForget, FullListsForget, MapsForgetFaults};
-ghost use Rattle.quiet.specs.Laws.{MapCallsInPlaceAreOldOrNew, MapsOfOneForgetFaults, ReapsForget, StrictUnmapsForgetPages};
+ghost use Rattle.quiet.specs.Laws.{MapCallsInPlaceAreOldOrNew, MapsOfOneForgetFaults, ReapsForget};
+ghost use Rattle.quiet.specs.Laws.{RetiredTablesInPlaceStateNothing, RetiredTablesStateNothing, StrictUnmapsForgetPages};
 ghost use Rattle.quiet.specs.Laws.{StrictUnmapsForgetSinglePages, StrictUnmapsForgetTables, UnmapCallsInPlaceAreOldOrNew};
 
 /// Whatever words of a call have reached memory, a walk finds each page of a domain as before the call or as after it. Of the domain that
@@ -48,6 +49,12 @@ pub fn strict_unmaps_forget_pages()
 /// Nor is a cached table one that was cut.
 pub fn strict_unmaps_forget_tables()
     ensures { StrictUnmapsForgetTables }
+{}
+
+/// While a table that a lazy unmap cut waits in a record, a walk that begins there, since it is cached, finds nothing.
+pub fn retired_tables_state_nothing()
+    ensures meanwhile { RetiredTablesStateNothing }
+    ensures in_place { RetiredTablesInPlaceStateNothing }
 {}
 
 /// Once a flush's descriptor is done, nothing cached holds a page or a table of a record.
