@@ -85,10 +85,9 @@ flushes_forget m t d released h x r whole does there last inside =
 
 -- ---- a full list
 
-abbrev PutOff : State → State → ℕ → Range → ℕ → Domain → Type 0
+abbrev pub PutOff : State → State → ℕ → Range → ℕ → Domain → Type 0
 PutOff m t d range released h =
-    (new : Domain) × (p : PutsOff (operands_in m h) d range released (operands_in t new)) × Empties (operands_in m h) d released p.roomy
-    × (domain_at t.domains d ≡ Some new)
+    (new : Domain) × PutsOff (operands_in m h) d range released (operands_in t new) × (domain_at t.domains d ≡ Some new)
 
 by_lazy : (m t : State) (d released : ℕ) (range : Range) (h new : Domain) (mode : Mode) → mode ≡ Lazy
     → ByMode mode ((released ≡ 0) × UnmapsStrictly (operands_in m h) d range (operands_in t new))
@@ -100,17 +99,15 @@ emptied : (old new : Operands) (d released : ℕ) → released ≢ 0 → MakesRo
 emptied old new d released some (inl has) = absurd (some has.none)
 emptied old new d released some (inr empties) = empties
 
-put_off : (m t : State) (d address pages released : ℕ) (h : Domain) → IsSound m
-    → Becomes m (calls.Unmap d address pages) (Unmapped released) t → domain_at m.domains d ≡ Some h → h.mode ≡ Lazy → released ≢ 0
+pub put_off : (m t : State) (d address pages released : ℕ) (h : Domain) → IsSound m
+    → Becomes m (calls.Unmap d address pages) (Unmapped released) t → domain_at m.domains d ≡ Some h → h.mode ≡ Lazy
     → PutOff m t d (range_at address pages) released h
 unfolding Becomes
-put_off m t d address pages released h whole (k, new, here, ends, is) there lazy some =
-    let own : k ≡ h = same_Some k h (sym here ∙ there) in
-    let p = by_lazy m t d released (range_at address pages) h new h.mode lazy
-    (subst (λ (x : Domain). EndsBy (operands_in m x) d (range_at address pages) released (operands_in t new)) own ends) in (
+put_off m t d address pages released h whole (k, new, here, ends, is) there lazy =
+    let own : k ≡ h = same_Some k h (sym here ∙ there) in (
       new,
-      p,
-      emptied (operands_in m h) p.roomy d released some p.room,
+      by_lazy m t d released (range_at address pages) h new h.mode lazy
+          (subst (λ (x : Domain). EndsBy (operands_in m x) d (range_at address pages) released (operands_in t new)) own ends),
       domain_then m t d h new whole there (ap (λ (x : State). x.domains) is),
     )
 
@@ -155,16 +152,17 @@ module _ (m t : State) (d address pages released : ℕ) (h : Domain) (whole : Is
 
 pub full_lists_forget : FullListsForget
 full_lists_forget m t d address pages released h x r whole does there lazy some last inside =
-    let o = put_off m t d address pages released h whole does.becomes there lazy some in
+    let o = put_off m t d address pages released h whole does.becomes there lazy in
+    let e = emptied (operands_in m h) o.1.roomy d released some o.1.room in
     let sends = subst (λ (y : Iommu). Invalidates m.iommu (IotlbDomain d) (domain_shown m.pool h) y) (sym o.1.quiet)
-    o.2.flushes.invalidates in
+    e.flushes.invalidates in
     let is : x ≡ IotlbDomain d = sent_last m.iommu t.iommu (IotlbDomain d) x _ last.0 last.1 sends last.2 in
-    let during = cached_during m t _ _ d h o.0 whole does there o.3 in (
+    let during = cached_during m t _ _ d h o.0 whole does there o.2 in (
       λ leaf here since holds. elim since [
         | inl left ↦ none_left d x leaf is here left
         | inr met ↦ elim (during.0 leaf met) [
           | inl before ↦ entry_apart m whole.of_world.0 whole.of_world.1 d h there r inside leaf before holds
-          | inr after ↦ apart_then m t d address pages released h whole does there o.0 o.1 o.2 r inside leaf after holds
+          | inr after ↦ apart_then m t d address pages released h whole does there o.0 o.1 e r inside leaf after holds
         ]
       ],
       λ table here since. elim since [

@@ -14,4 +14,5 @@ pub mod Reaps
 pub mod Staying
 pub mod ReadWords
 pub mod InPlace
+pub mod Retiring
 pub mod Retired

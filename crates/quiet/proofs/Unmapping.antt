@@ -74,7 +74,7 @@ module _ (m t : State) (e : ℕ) (k : Domain) (whole : IsSound m) (here : domain
     retires = u.retires;
   }
 
-  written_at_once : (released : ℕ) (new : Domain) (p : PutsOff (operands_in m k) e range released (operands_in t new))
+  abbrev pub written_at_once : (released : ℕ) (new : Domain) (p : PutsOff (operands_in m k) e range released (operands_in t new))
       → HasRoom (operands_in m k) released p.roomy → Unmapping m t k range released
   written_at_once released new p has = record {
     before = m.pool;

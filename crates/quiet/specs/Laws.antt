@@ -165,6 +165,19 @@ StrictUnmapsForgetTables =
 
 -- ---- lazy domains
 
+-- Each table of the domain that was cached before a lazy unmap or during it is in its place in the tree after it, or was cut, and is retired
+-- then: it waits in a record of the domain.
+abbrev pub LazyUnmapsRetireTables : Type 0
+LazyUnmapsRetireTables =
+    (m t : State) (domain address pages released : ℕ) (h h' : Domain) (table : CachedNonLeaf)
+    → IsSound m
+    → Does m (calls.Unmap domain address pages) (Unmapped released) t
+    → domain_at m.domains domain ≡ Some h
+    → domain_at t.domains domain ≡ Some h'
+    → h.mode ≡ Lazy
+    → IsInPlace m.pool.words h table ⊎ IsPassedDuring m t h table
+    → IsInPlace t.pool.words h table ⊎ IsRetired h' table.frame
+
 -- A table that a lazy unmap cut is in no tree, and waits in a record of the domain. A unit that has it cached may begin a walk there, until a
 -- flush has it forget that. Whatever words of a call have reached memory meanwhile, such a walk finds nothing: each word that it reads there
 -- is 0. So it is at every call but an unmap of the domain that flushes first, since that may then use the frame again.

@@ -4,8 +4,8 @@
 #![tactic(auto)]
 
 ghost use Rattle.quiet.specs.Laws.{CachedDuringIsOldOrNew, CachesStay, CallsAreOldOrNew, CallsReadSpelledWords, DetachesForget};
-ghost use Rattle.quiet.specs.Laws.{DropsAreOldOrAbsent, DropsForget, FlushesForget, FullListsForget, MapsForgetFaults};
-ghost use Rattle.quiet.specs.Laws.{MapCallsInPlaceAreOldOrNew, MapsOfOneForgetFaults, ReapsForget};
+ghost use Rattle.quiet.specs.Laws.{DropsAreOldOrAbsent, DropsForget, FlushesForget, FullListsForget, LazyUnmapsRetireTables};
+ghost use Rattle.quiet.specs.Laws.{MapsForgetFaults, MapCallsInPlaceAreOldOrNew, MapsOfOneForgetFaults, ReapsForget};
 ghost use Rattle.quiet.specs.Laws.{RetiredTablesInPlaceStateNothing, RetiredTablesStateNothing, StrictUnmapsForgetPages};
 ghost use Rattle.quiet.specs.Laws.{StrictUnmapsForgetSinglePages, StrictUnmapsForgetTables, UnmapCallsInPlaceAreOldOrNew};
 
@@ -49,6 +49,11 @@ pub fn strict_unmaps_forget_pages()
 /// Nor is a cached table one that was cut.
 pub fn strict_unmaps_forget_tables()
     ensures { StrictUnmapsForgetTables }
+{}
+
+/// What is cached of a domain's tables stays in its place at a lazy unmap, or is cut and waits in a record.
+pub fn lazy_unmaps_retire_tables()
+    ensures { LazyUnmapsRetireTables }
 {}
 
 /// While a table that a lazy unmap cut waits in a record, a walk that begins there, since it is cached, finds nothing.
