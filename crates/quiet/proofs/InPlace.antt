@@ -31,7 +31,8 @@ use Rattle.quiet.proofs.Unmapping.{Unmapping, own_tree}
 use Rattle.quiet.proofs.Written.{IsOf, IsOut, Written, closes, maps, other_out, rests, takes, unmaps}
 
 -- the words of a domain's tree spell its entries
-pub spelled_in : (m : State) (e : ℕ) (k : Domain) → IsSound m → domain_at m.domains e ≡ Some k → AreSpelled m.pool.words (levels k.width) k.root
+pub spelled_in : (m : State) (e : ℕ) (k : Domain) → IsSound m → domain_at m.domains e ≡ Some k
+    → AreSpelled m.pool.words (levels k.width) k.root
 spelled_in m e k whole here =
     (both_there m.pool.words (domain_at m.domains e) (whole.of_world.0.domains e) k (whole.of_world.1.domains e) here).2.spelled
 

@@ -16,3 +16,4 @@ pub mod ReadWords
 pub mod InPlace
 pub mod Retiring
 pub mod Retired
+pub mod FromTables

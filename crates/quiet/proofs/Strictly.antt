@@ -70,7 +70,8 @@ module _ (m t : State) (d address pages released : ℕ) (h : Domain) (whole : Is
 
   unmap : IsUnmap m.pool u.pool_between h.width h.root u.retired.range u.retired.cut.frames
   unmap =
-      own_unmap m t d h whole there (range_at address pages) released (written_strictly m t d h whole there (range_at address pages) released new u)
+      own_unmap m t d h whole there (range_at address pages) released
+      (written_strictly m t d h whole there (range_at address pages) released new u)
       (unmap_pages m t d address pages released h whole there does)
 
   start : u.retired.range.first < span (levels h.width)

@@ -1,5 +1,5 @@
 -- The law of quiet: what may still be cached once a call is done.
-use Rattle.std.specs.Prelude.{◌≡◌, ◌≢◌, ◌⊎◌, ℕ, ◌<◌, ◌≤◌, ◌++◌, List, false, true, Some}
+use Rattle.std.specs.Prelude.{◌≡◌, ◌≢◌, ◌⊎◌, ℕ, ◌+◌, ◌<◌, ◌≤◌, ◌++◌, List, false, true, Some}
 use Rattle.arrayvec.specs.ArrayVec.{ArrayVec}
 use Rattle.dmatypes.specs.Conditions.{total_pages}
 use Rattle.dmatypes.specs.Page.{IsWithin, pages_end, range_at}
@@ -25,7 +25,7 @@ use Rattle.engine.specs.declared.record.Record.{Record}
 use Rattle.engine.specs.Domains.{Domain, domain_at}
 use Rattle.engine.specs.State.{State}
 use Rattle.engine.specs.Steps.{Does, Goes}
-use Rattle.quiet.specs.Quiet.{HoldsPageOf, IsCachedSince, IsDoneLast, IsEntry, IsInPlace, IsMetAmong, IsMetDuring, IsOfRow}
+use Rattle.quiet.specs.Quiet.{GoesOnFromRoot, HoldsPageOf, IsCachedSince, IsDoneLast, IsEntry, IsInPlace, IsMetAmong, IsMetDuring, IsOfRow}
 use Rattle.quiet.specs.Quiet.{IsMapOrUnmap, IsPassedAmong, IsPassedDuring, IsRetired, IsSound, IsTableCachedSince, StatesNothing}
 
 -- ---- any call
@@ -87,6 +87,29 @@ CachesStay =
     → ((address pages released : ℕ) → call ≡ calls.Unmap domain address pages → reply ≢ Unmapped released)
     → ((leaf : CachedLeaf) → IsEntry m.pool.words h leaf ⊎ IsMetDuring m t h leaf → IsEntry t.pool.words h leaf)
     × ((table : CachedNonLeaf) → IsInPlace m.pool.words h table ⊎ IsPassedDuring m t h table → IsInPlace t.pool.words h table)
+
+-- A walk that begins at a cached table, where that is in its place before a call, goes on as one from the root that reads the levels above
+-- as before the call. So what is said of walks from the root is said of it too.
+abbrev pub WalksFromTablesAreFromRoot : Type 0
+WalksFromTablesAreFromRoot =
+    (m t : State) (h : Domain) (table : CachedNonLeaf) (reached : Reached) (page : ℕ)
+    → IsInPlace m.pool.words h table
+    → IsFilledFirst m.pool.words t.pool.words reached
+    → table.first ≤ page
+    → page < table.first + table.pages
+    → (whole : Reached) × IsFilledFirst m.pool.words t.pool.words whole
+    × GoesOnFromRoot (meanwhile m.pool.words t.pool.words reached) table (meanwhile m.pool.words t.pool.words whole) h page
+
+-- Where the tables lie in place likewise.
+abbrev pub WalksFromTablesInPlaceAreFromRoot : Type 0
+WalksFromTablesInPlaceAreFromRoot =
+    (m : State) (moments : List Moment) (h : Domain) (table : CachedNonLeaf) (moment : ℕ → ℕ) (page : ℕ)
+    → IsInPlace m.pool.words h table
+    → GoesDown moment
+    → table.first ≤ page
+    → page < table.first + table.pages
+    → (whole : ℕ → ℕ) × GoesDown whole
+    × GoesOnFromRoot (in_place m.pool.words moments moment) table (in_place m.pool.words moments whole) h page
 
 -- ---- where the tables lie in place
 
@@ -165,8 +188,8 @@ StrictUnmapsForgetTables =
 
 -- ---- lazy domains
 
--- Each table of the domain that was cached before a lazy unmap or during it is in its place in the tree after it, or was cut, and is retired
--- then: it waits in a record of the domain.
+-- Each table of the domain that was cached before a lazy unmap or during it is in its place in the tree after it, or was cut and waits in a
+-- record of the domain.
 abbrev pub LazyUnmapsRetireTables : Type 0
 LazyUnmapsRetireTables =
     (m t : State) (domain address pages released : ℕ) (h h' : Domain) (table : CachedNonLeaf)
@@ -178,9 +201,9 @@ LazyUnmapsRetireTables =
     → IsInPlace m.pool.words h table ⊎ IsPassedDuring m t h table
     → IsInPlace t.pool.words h table ⊎ IsRetired h' table.frame
 
--- A table that a lazy unmap cut is in no tree, and waits in a record of the domain. A unit that has it cached may begin a walk there, until a
--- flush has it forget that. Whatever words of a call have reached memory meanwhile, such a walk finds nothing: each word that it reads there
--- is 0. So it is at every call but an unmap of the domain that flushes first, since that may then use the frame again.
+-- A table that waits in a record is in no tree, but a unit that has it cached may begin a walk there, until a flush has it forget that.
+-- Whatever words of a call have reached memory meanwhile, such a walk finds nothing: each word that it reads there is 0. So it is at every
+-- call but an unmap of the domain that flushes first, which may use the frame again once its descriptor is done.
 abbrev pub RetiredTablesStateNothing : Type 0
 RetiredTablesStateNothing =
     (m t : State) (call : Call) (reply : Reply) (domain frame : ℕ) (h : Domain) (reached : Reached)
@@ -192,7 +215,7 @@ RetiredTablesStateNothing =
     → StatesNothing (meanwhile m.pool.words t.pool.words reached) frame
     × ((level index : ℕ) → index < TABLE_ENTRIES → word_read m.pool.words t.pool.words reached level frame index ≡ 0)
 
--- Nor does it find anything where the tables lie in place, while a map or such an unmap writes their words: the frame is zeroed all the
+-- Nor does it find anything where the tables lie in place, while a map or any other unmap writes their words: the table is zeroed all the
 -- time.
 abbrev pub RetiredTablesInPlaceStateNothing : Type 0
 RetiredTablesInPlaceStateNothing =

@@ -1,8 +1,11 @@
 -- What a unit that isn't ours may have cached of a domain: entries that a walk met, in the memory of one moment or while a call was
--- written. No list of the simulated unit is asked. A walk that begins at a cached table is one from the root that read the levels above
--- when that was cached. The laws take for granted four things that a unit has to do. It caches only what a walk met. It uses an entry for
--- its own domain alone. A descriptor is done only when no walk that began before it will still cache or use what it names. A wait is done
--- only when all descriptors before it are.
+-- written. No list of the simulated unit is asked. The laws take for granted four things that a unit has to do. It caches only what a walk
+-- met. It uses an entry for its own domain alone. A descriptor is done only when no walk that began before it will still cache or use what
+-- it names. A wait is done only when all descriptors before it are. All walks here are from the root. One that begins at a cached table is
+-- such a walk, which read the levels above when that was cached. If that was before the call, and the table is in its place still, it goes
+-- on as one that reads those levels as before the call (`WalksFromTablesAreFromRoot`). If a lazy unmap has cut the table since, it waits in
+-- a record (`LazyUnmapsRetireTables`). No walk from the root leads there any more, and one that begins there finds nothing
+-- (`RetiredTablesStateNothing`).
 use Rattle.std.specs.Prelude.{◌≡◌, ◌⊎◌, ℕ, ◌<◌, IsTrue, List, [], ◌∷◌, false, length, None, Some, slice_get}
 use Rattle.dmatypes.specs.declared.limits.TheConstants.{MOST_DOMAINS}
 use Rattle.dmatypes.specs.declared.reply.Event.{Event}
@@ -73,6 +76,13 @@ abbrev pub IsPassedDuring : State → State → Domain → CachedNonLeaf → Typ
 IsPassedDuring m t h table =
     (reached : Reached) × IsFilledFirst m.pool.words t.pool.words reached
     × IsPassedIn (meanwhile m.pool.words t.pool.words reached) h table
+
+-- a walk for the page that begins at the table, in one memory, meets the leaf that a walk from the root meets in another, and passes the
+-- same tables below
+pub record GoesOnFromRoot (now : Memory) (table : CachedNonLeaf) (whole : Memory) (h : Domain) (page : ℕ) : Type 0 where
+  pub leaf : leaf_from now table.level table.frame page ≡ leaf_from whole (levels h.width) h.root page
+  pub tables : (below : ℕ) → below < table.level
+      → table_from now table.level table.frame page below ≡ table_from whole (levels h.width) h.root page below
 
 -- in this memory a walk that begins at the table finds no entry: it meets no leaf, and passes no other table
 pub record StatesNothing (now : Memory) (table : ℕ) : Type 0 where

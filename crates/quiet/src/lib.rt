@@ -8,6 +8,7 @@ ghost use Rattle.quiet.specs.Laws.{DropsAreOldOrAbsent, DropsForget, FlushesForg
 ghost use Rattle.quiet.specs.Laws.{MapsForgetFaults, MapCallsInPlaceAreOldOrNew, MapsOfOneForgetFaults, ReapsForget};
 ghost use Rattle.quiet.specs.Laws.{RetiredTablesInPlaceStateNothing, RetiredTablesStateNothing, StrictUnmapsForgetPages};
 ghost use Rattle.quiet.specs.Laws.{StrictUnmapsForgetSinglePages, StrictUnmapsForgetTables, UnmapCallsInPlaceAreOldOrNew};
+ghost use Rattle.quiet.specs.Laws.{WalksFromTablesAreFromRoot, WalksFromTablesInPlaceAreFromRoot};
 
 /// Whatever words of a call have reached memory, a walk finds each page of a domain as before the call or as after it. Of the domain that
 /// a drop ends, as before or not at all.
@@ -27,14 +28,20 @@ pub fn caches_stay()
     ensures { CachesStay }
 {}
 
+/// A walk that begins at a cached table in its place goes on as one from the root.
+pub fn walks_from_tables_are_from_root()
+    ensures meanwhile { WalksFromTablesAreFromRoot }
+    ensures in_place { WalksFromTablesInPlaceAreFromRoot }
+{}
+
 /// Where the tables lie in place, a walk that reads their words while a map writes them finds each page of a domain as before it or as
 /// after it.
 pub fn map_calls_in_place_are_old_or_new()
     ensures { MapCallsInPlaceAreOldOrNew }
 {}
 
-/// One that reads them while an unmap writes them, strict or lazy, each level no sooner than the level above, finds each page of a domain as
-/// before it or as after it.
+/// One that reads them while an unmap writes them, strict or lazy, finds each page so if it reads each level no sooner than the level
+/// above.
 pub fn unmap_calls_in_place_are_old_or_new()
     ensures { UnmapCallsInPlaceAreOldOrNew }
 {}
@@ -51,12 +58,12 @@ pub fn strict_unmaps_forget_tables()
     ensures { StrictUnmapsForgetTables }
 {}
 
-/// What is cached of a domain's tables stays in its place at a lazy unmap, or is cut and waits in a record.
+/// A cached table stays in its place at a lazy unmap, or is cut and waits in a record.
 pub fn lazy_unmaps_retire_tables()
     ensures { LazyUnmapsRetireTables }
 {}
 
-/// While a table that a lazy unmap cut waits in a record, a walk that begins there, since it is cached, finds nothing.
+/// While it waits there, a walk that begins at it finds nothing.
 pub fn retired_tables_state_nothing()
     ensures meanwhile { RetiredTablesStateNothing }
     ensures in_place { RetiredTablesInPlaceStateNothing }
