@@ -2,4 +2,4 @@ pub mod Made
 pub mod Through
 pub mod Steps
 pub mod Fills
-pub mod Each
+pub mod Ends

@@ -6,7 +6,6 @@ pub mod Under
 pub mod Spelled
 pub mod Changes
 pub mod Trail
-pub mod Ending
 pub mod Moments
 pub mod Segments
 pub mod Lacks

@@ -1,10 +1,10 @@
 -- In which order a call writes the words of a pool. A unit that walks them where they lie reads them as they are at each moment.
-use Rattle.std.specs.Prelude.{◌≡◌, ◌⊎◌, ℕ, ◌+◌, ◌<◌, ◌≤◌, Some, List, [], ◌∷◌, ◌++◌, All}
+use Rattle.std.specs.Prelude.{◌≡◌, ◌⊎◌, ℕ, ◌+◌, ◌<◌, ◌≤◌, Some, List, [], ◌∷◌, ◌++◌}
 use Rattle.tables.specs.declared.entries.TheConstants.{TABLE_ENTRIES}
 use Rattle.dmatypes.specs.World.{Target}
 use Rattle.vtdbits.specs.Translation.{target}
 use Rattle.vtdbits.specs.declared.entry.SsEntry.TheVariants.{LargeLeaf, Leaf, Table}
-use Rattle.tables.specs.Tree.{table_from}
+use Rattle.tables.specs.Tree.{table_from, uses}
 use Rattle.tables.specs.Pool.{Moment, Pool, memory, moment_of, occurs, word}
 
 -- a word that states a leaf of 2 MiB names a table in its place, which isn't free and states each page as the leaf does
@@ -26,6 +26,14 @@ pub record GoesOn (m n : Moment) : Type 0 where
 pub record FillsIn (m n : Moment) : Type 0 where
   pub fewer : (f : ℕ) → occurs f n.free ≤ occurs f m.free
   pub words : (f k : ℕ) → k < TABLE_ENTRIES → (word n.words f k ≡ word m.words f k) ⊎ (word m.words f k ≡ 0)
+
+-- From one moment of a tree's end to another each word stays or is cleared, and no table comes free that the tree still has below its root.
+-- A frame that wasn't the tree's keeps its words, and doesn't come free
+pub record EndsOn (old : Pool) (level root : ℕ) (m n : Moment) : Type 0 where
+  pub named : (page w table : ℕ) → w < level → table_from (memory m.words) level root page w ≡ Some table → occurs table n.free ≡ 0
+  pub words : (f k : ℕ) → k < TABLE_ENTRIES → (word n.words f k ≡ word m.words f k) ⊎ (word n.words f k ≡ 0)
+  pub others : (f k : ℕ) → k < TABLE_ENTRIES → uses (memory old.words) level root f ≡ 0 → word n.words f k ≡ word m.words f k
+  pub fewer : (f : ℕ) → uses (memory old.words) level root f ≡ 0 → occurs f n.free ≤ occurs f m.free
 
 -- no word changes, and no frame comes free
 abbrev pub Rests : Moment → Moment → Type 0
@@ -50,17 +58,6 @@ WritesInOrder old new = WritesBySteps old new GoesOn
 abbrev pub FillsInOrder : Pool → Pool → Type 0
 FillsInOrder old new = WritesBySteps old new FillsIn
 
--- what holds at each moment of a call
-pub record AtEachMoment (old new : Pool) (P : Moment → Type 0) : Type 0 where
-  pub moments : List Moment
-  pub trail : new.trail ≡ old.trail ++ moments
-  pub holds : All P moments
-
--- no table that the tree still has below its root is free
-abbrev pub NamesNoneFree : Moment → ℕ → ℕ → Type 0
-NamesNoneFree m level root =
-    (page w table : ℕ) → w < level → table_from (memory m.words) level root page w ≡ Some table → occurs table m.free ≡ 0
-
--- the moments of a tree's end: the word that names a table is cleared before the table is given back
+-- those of a tree's end
 abbrev pub EndsInOrder : Pool → Pool → ℕ → ℕ → Type 0
-EndsInOrder old new level root = AtEachMoment old new (λ m. NamesNoneFree m level root)
+EndsInOrder old new level root = WritesBySteps old new (EndsOn old level root)

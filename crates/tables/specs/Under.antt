@@ -1,12 +1,12 @@
 -- A change under one entry of a table.
-use Rattle.std.specs.Prelude.{◌≡◌, ◌≢◌, ℕ, suc, ◌+◌, ◌-◌, ◌/◌, ◌%◌, ◌<◌, ◌≤◌, List, []}
+use Rattle.std.specs.Prelude.{◌≡◌, ◌≢◌, ◌⊎◌, ℕ, suc, ◌+◌, ◌-◌, ◌/◌, ◌%◌, ◌<◌, ◌≤◌, Some, List, []}
 use Rattle.dmatypes.specs.declared.page.TheConstants.{SPAN_PAGES}
 use Rattle.tables.specs.declared.entries.TheConstants.{TABLE_ENTRIES}
 use Rattle.dmatypes.specs.World.{Target}
 use Rattle.vtdbits.specs.Translation.{target}
 use Rattle.vtdbits.specs.declared.entry.SsEntry.TheVariants.{Table, Leaf, LargeLeaf}
-use Rattle.tables.specs.Tree.{Memory, entry_uses, uses}
-use Rattle.tables.specs.Pool.{Pool, word, memory, occurs}
+use Rattle.tables.specs.Tree.{Memory, entry_uses, index_in, table_from, uses}
+use Rattle.tables.specs.Pool.{Moment, Pool, word, memory, occurs}
 
 -- what an entry of a table uses of a frame; l is the level below
 abbrev pub used_by_entry : Memory → ℕ → ℕ → ℕ → ℕ → ℕ
@@ -35,3 +35,13 @@ pub record IsSplit (old new : Pool) (t i page c : ℕ) (x : Target) : Type 0 whe
   pub spelled : (p : ℕ) → p / SPAN_PAGES ≡ page / SPAN_PAGES
       → memory new.words 1 c (p % SPAN_PAGES) ≡ Leaf (target (x.frame + p % SPAN_PAGES) x.rights)
   pub free : 0 < occurs c old.free
+
+-- From one moment to another of the end of what lies under an entry each word stays or is cleared, and no table comes free that the entry
+-- still leads to. The table's other words stay, as do those of a frame that didn't lie there, and it doesn't come free
+pub record EndsUnder (old : Pool) (level t i : ℕ) (m n : Moment) : Type 0 where
+  pub named : (page w table : ℕ) → index_in (level - 1) page ≡ i → w < level
+      → table_from (memory m.words) level t page w ≡ Some table → occurs table n.free ≡ 0
+  pub words : (f k : ℕ) → k < TABLE_ENTRIES → (word n.words f k ≡ word m.words f k) ⊎ (word n.words f k ≡ 0)
+  pub row : (k : ℕ) → k < TABLE_ENTRIES → k ≢ i → word n.words t k ≡ word m.words t k
+  pub others : (f k : ℕ) → k < TABLE_ENTRIES → f ≢ t → used_at old level t f i ≡ 0 → word n.words f k ≡ word m.words f k
+  pub fewer : (f : ℕ) → used_at old level t f i ≡ 0 → occurs f n.free ≤ occurs f m.free

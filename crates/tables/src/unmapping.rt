@@ -8,9 +8,8 @@ ghost use Rattle.vtdbits.specs.Entry.{look};
 ghost use Rattle.vtdbits.specs.Translation.{target};
 ghost use Rattle.tables.specs.Changes.{TakesAndGivesFrames, KeepsSpellings, UnmapsPages};
 ghost use Rattle.tables.specs.Lacks.{splits_leaf, leaves_splitting};
-ghost use Rattle.tables.specs.Trail.{WritesInOrder, AtEachMoment};
-ghost use Rattle.tables.specs.Under.{IsSplit, used_at};
-ghost use Rattle.tables.specs.Ending.{IsEnding, IsEndingUnder};
+ghost use Rattle.tables.specs.Trail.{EndsInOrder, WritesBySteps, WritesInOrder};
+ghost use Rattle.tables.specs.Under.{EndsUnder, IsSplit, used_at};
 ghost use Rattle.tables.specs.Extents.{WritesEntries, cut_of, was_split, extent_splits};
 
 use crate::cut::Cut;
@@ -232,7 +231,7 @@ pub(crate) fn take_down(pool: &mut Pool, level: u64, table: Frame)
     ensures free { (f : ℕ) → occurs f pool.new.free ≡ occurs f pool.old.free + uses (memory pool.old.words) level table f }
     ensures others { (f k : ℕ) → k < TABLE_ENTRIES → uses (memory pool.old.words) level table f ≡ 0
         → word pool.new.words f k ≡ word pool.old.words f k }
-    ensures moments { AtEachMoment pool.old pool.new (λ m. IsEnding pool.old m level table) }
+    ensures order { EndsInOrder pool.old pool.new level table }
     ensures frames { pool.new.frames ≡ pool.old.frames }
     ensures pool { IsPool pool.new }
 {
@@ -256,7 +255,7 @@ fn take_down_entry(pool: &mut Pool, level: u64, table: Frame, index: u64)
     ensures row { (k : ℕ) → k < TABLE_ENTRIES → k ≢ index → word pool.new.words table k ≡ word pool.old.words table k }
     ensures others { (f k : ℕ) → k < TABLE_ENTRIES → f ≢ table → used_at pool.old level table f index ≡ 0
         → word pool.new.words f k ≡ word pool.old.words f k }
-    ensures moments { AtEachMoment pool.old pool.new (λ m. IsEndingUnder pool.old m level table index) }
+    ensures order { WritesBySteps pool.old pool.new (EndsUnder pool.old level table index) }
     ensures frames { pool.new.frames ≡ pool.old.frames }
     ensures pool { IsPool pool.new }
 {

@@ -35,3 +35,19 @@ steps_after Step may old between new first second = record {
   through =
       goes_on Step may (moment_of old) (moment_of between) (moment_of new) first.moments second.moments first.through second.through;
 }
+
+-- steps are also steps of another kind, by what holds at each moment on the way
+goes_by : (P : Moment → Type 0) (Step Other : Moment → Moment → Type 0) → ((m n : Moment) → P m → Step m n → P n × Other m n)
+    → (m last : Moment) (ms : List Moment) → P m → GoesThrough Step m ms last → GoesThrough Other m ms last
+unfolding GoesThrough
+goes_by P Step Other more m last [] here rest = rest
+goes_by P Step Other more m last (n ∷ ns) here on =
+    let both = more m n here on.0 in (both.1, goes_by P Step Other more n last ns both.0 on.1)
+
+pub steps_by : (P : Moment → Type 0) (Step Other : Moment → Moment → Type 0) → ((m n : Moment) → P m → Step m n → P n × Other m n)
+    → (old new : Pool) → P (moment_of old) → WritesBySteps old new Step → WritesBySteps old new Other
+steps_by P Step Other more old new here steps = record {
+  moments = steps.moments;
+  trail = steps.trail;
+  through = goes_by P Step Other more (moment_of old) (moment_of new) steps.moments here steps.through;
+}

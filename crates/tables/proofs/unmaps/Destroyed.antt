@@ -6,15 +6,14 @@ use Rattle.vtdbits.specs.declared.entry.SsEntry.{SsEntry}
 use Rattle.vtdbits.specs.declared.entry.SsEntry.TheVariants.{Absent, Table, Leaf, LargeLeaf}
 use Rattle.tables.specs.Tree.{sum_below, one_if_same, entry_uses, uses}
 use Rattle.tables.specs.Under.{used_by_entry, used_at}
-use Rattle.tables.specs.Ending.{IsEndingUnder}
-use Rattle.tables.specs.Pool.{Moment, Pool, word, memory, moment_of, occurs, IsTree, IsWrite}
+use Rattle.tables.specs.Pool.{Pool, word, memory, occurs, IsTree, IsWrite}
 use Rattle.tables.proofs.sums.Firsts.{sum_below_same, sum_below-suc, sum_below-zero, sum_below_le_more}
 use Rattle.tables.proofs.sums.OneFrame.{one_if_same-self}
 use Rattle.tables.proofs.walks.Words.{same_entry}
 use Rattle.tables.proofs.walks.Agreeing.{to_agree, uses_agree}
 use Rattle.tables.proofs.walks.Steps.{uses-suc, same_or_not}
 
-pub used_child : (pool : Pool) (l t f i : ℕ) → used_at pool (suc l) t f i ≡ used_by_entry (memory pool.words) l t f i
+used_child : (pool : Pool) (l t f i : ℕ) → used_at pool (suc l) t f i ≡ used_by_entry (memory pool.words) l t f i
 unfolding used_at
 used_child pool l t f i =
     ap (λ n. entry_uses (memory pool.words (suc l) t i) (λ c. uses (memory pool.words) n c f)) (let e : suc l - 1 ≡ l = omega arith in e)
@@ -64,42 +63,48 @@ used_then old mid level t i c f is taken wrote =
     let none : uses (memory old.words) (level - 1) c t ≡ 0 = omega (arith, taken, used_table old level t t i c is) in
     apart_uses old mid t i (level - 1) c f wrote none ∙ sym (used_table old level t f i c is)
 
--- an entry that names no table uses nothing
-pub nothing_used : (old : Pool) (level t i f : ℕ) (e : SsEntry) → memory old.words level t i ≡ e → ((c : ℕ) → e ≡ Table c → ⊥)
-    → used_at old level t f i ≡ 0
-nothing_used old level t i f e is other = used_none old level t f i e is (by_entry e other)
+-- its word is 0, what lay below it came free, and nothing else changed
+pub record IsFreed (old new : Pool) (level t i : ℕ) : Type 0 where
+  pub free : (f : ℕ) → occurs f new.free ≡ occurs f old.free + used_at old level t f i
+  pub cleared : word new.words t i ≡ 0
+  pub row : (k : ℕ) → k < TABLE_ENTRIES → k ≢ i → word new.words t k ≡ word old.words t k
+  pub others : (f k : ℕ) → k < TABLE_ENTRIES → f ≢ t → used_at old level t f i ≡ 0 → word new.words f k ≡ word old.words f k
+  pub frames : new.frames ≡ old.frames
+
+-- the word is cleared first, and then what it named is taken down
+pub table_freed : (old mid new : Pool) (level t i c : ℕ) → i < TABLE_ENTRIES → memory old.words level t i ≡ Table c
+    → occurs t old.free + used_at old level t t i ≡ 0 → IsWrite old.words mid.words t i 0 → mid.free ≡ old.free
+    → mid.frames ≡ old.frames → ((f : ℕ) → occurs f new.free ≡ occurs f mid.free + uses (memory mid.words) (level - 1) c f)
+    → ((f k : ℕ) → k < TABLE_ENTRIES → uses (memory mid.words) (level - 1) c f ≡ 0 → word new.words f k ≡ word mid.words f k)
+    → new.frames ≡ mid.frames → IsFreed old new level t i
+table_freed old mid new level t i c i_in is taken wrote mid_free mid_frames free others frames =
+    let same : (f : ℕ) → uses (memory mid.words) (level - 1) c f ≡ used_at old level t f i =
+    λ f. used_then old mid level t i c f is taken wrote in
+    let own : uses (memory mid.words) (level - 1) c t ≡ 0 = omega (arith, same t, taken) in
+    record {
+      free = λ f. omega (arith, free f, ap (occurs f) mid_free, same f);
+      cleared = others t i i_in own ∙ wrote.0;
+      row = λ k k_in ne. others t k k_in own ∙ wrote.1 t k k_in (λ _ e. ne e);
+      others = λ f k k_in ne unused. others f k k_in (same f ∙ unused) ∙ wrote.1 f k k_in (λ e _. ne e);
+      frames = frames ∙ mid_frames;
+    }
+
+pub nothing_freed : (old new : Pool) (level t i : ℕ) (e : SsEntry) → memory old.words level t i ≡ e
+    → ((c : ℕ) → e ≡ Table c → ⊥) → IsWrite old.words new.words t i 0 → new.free ≡ old.free → new.frames ≡ old.frames
+    → IsFreed old new level t i
+nothing_freed old new level t i e is other wrote free frames = record {
+  free = λ f. omega (arith, ap (occurs f) free, used_none old level t f i e is (by_entry e other));
+  cleared = wrote.0;
+  row = λ k k_in ne. wrote.1 t k k_in (λ _ e. ne e);
+  others = λ f k k_in ne unused. wrote.1 f k k_in (λ e _. ne e);
+  frames = frames;
+}
   where
     by_entry : (e : SsEntry) → ((c : ℕ) → e ≡ Table c → ⊥) → (below : ℕ → ℕ) → entry_uses e below ≡ 0
     by_entry Absent other below = refl
     by_entry (Table c) other below = absurd (other c refl)
     by_entry (Leaf x) other below = refl
     by_entry (LargeLeaf x) other below = refl
-
--- the word is cleared first
-pub cleared_first : (old : Pool) (m : Moment) (level t i : ℕ) → IsWrite old.words m.words t i 0 → m.free ≡ old.free
-    → IsEndingUnder old m level t i
-cleared_first old m level t i wrote free = record {
-  cleared = wrote.0;
-  row = λ k k_in ne. wrote.1 t k k_in (λ _ e. ne e);
-  others = λ f k k_in ne unused. wrote.1 f k k_in (λ e _. ne e);
-  free = λ f. omega (arith, ap (occurs f) free);
-}
-
--- and then what it named is taken down
-pub given_then : (old mid : Pool) (m : Moment) (level t i c : ℕ) → i < TABLE_ENTRIES → memory old.words level t i ≡ Table c
-    → occurs t old.free + used_at old level t t i ≡ 0 → IsWrite old.words mid.words t i 0 → mid.free ≡ old.free
-    → ((f k : ℕ) → k < TABLE_ENTRIES → uses (memory mid.words) (level - 1) c f ≡ 0 → word m.words f k ≡ word mid.words f k)
-    → ((f : ℕ) → occurs f m.free ≤ occurs f mid.free + uses (memory mid.words) (level - 1) c f) → IsEndingUnder old m level t i
-given_then old mid m level t i c i_in is taken wrote mid_free others free =
-    let same : (f : ℕ) → uses (memory mid.words) (level - 1) c f ≡ used_at old level t f i =
-    λ f. used_then old mid level t i c f is taken wrote in
-    let own : uses (memory mid.words) (level - 1) c t ≡ 0 = omega (arith, same t, taken) in
-    record {
-      cleared = others t i i_in own ∙ wrote.0;
-      row = λ k k_in ne. others t k k_in own ∙ wrote.1 t k k_in (λ _ e. ne e);
-      others = λ f k k_in ne unused. others f k k_in (same f ∙ unused) ∙ wrote.1 f k k_in (λ e _. ne e);
-      free = λ f. omega (arith, free f, ap (occurs f) mid_free, same f);
-    }
 
 -- ---- all of them
 
@@ -113,28 +118,20 @@ uses_level pool level l t f up =
     (sum_below_same (used_at pool (suc l) t f) (used_by_entry (memory pool.words) l t f) TABLE_ENTRIES
     (λ i lt. sym (used_child pool l t f i))))
 
--- the first entries are cleared, and no frame came free or changed but those that they used
-pub record IsPartway (old : Pool) (m : Moment) (level t i : ℕ) : Type 0 where
-  pub cleared : (k : ℕ) → k < i → word m.words t k ≡ 0
-  pub others : (f k : ℕ) → k < TABLE_ENTRIES → f ≢ t → sum_below (used_at old level t f) i ≡ 0 → word m.words f k ≡ word old.words f k
-  pub row : (k : ℕ) → k < TABLE_ENTRIES → i ≤ k → word m.words t k ≡ word old.words t k
-  pub free : (f : ℕ) → occurs f m.free ≤ occurs f old.free + sum_below (used_at old level t f) i
-
--- between two turns all that they used is free
+-- the first entries are cleared and their tables free, and the others are as they were
 pub record IsTakingDown (old cur : Pool) (level t i : ℕ) : Type 0 where
-  pub partway : IsPartway old (moment_of cur) level t i
   pub free : (f : ℕ) → occurs f cur.free ≡ occurs f old.free + sum_below (used_at old level t f) i
+  pub cleared : (k : ℕ) → k < i → word cur.words t k ≡ 0
+  pub others : (f k : ℕ) → k < TABLE_ENTRIES → f ≢ t → sum_below (used_at old level t f) i ≡ 0 → word cur.words f k ≡ word old.words f k
+  pub row : (k : ℕ) → k < TABLE_ENTRIES → i ≤ k → word cur.words t k ≡ word old.words t k
   pub frames : cur.frames ≡ old.frames
 
 pub taking_down_start : (pool : Pool) (level t : ℕ) → IsTakingDown pool pool level t 0
 taking_down_start pool level t = record {
-  partway = record {
-    cleared = λ k lt. absurd (omega (arith, lt));
-    others = λ f k k_in ne none. refl;
-    row = λ k k_in le. refl;
-    free = λ f. omega (arith, sum_below-zero (used_at pool level t f));
-  };
   free = λ f. omega (arith, sum_below-zero (used_at pool level t f));
+  cleared = λ k lt. absurd (omega (arith, lt));
+  others = λ f k k_in ne none. refl;
+  row = λ k k_in le. refl;
   frames = refl;
 }
 
@@ -146,7 +143,7 @@ part_of pool level l t f i up lt =
     sum_below_le_more (used_at pool level t f) (suc i) TABLE_ENTRIES (omega arith) in
     omega (arith, uses_level pool level l t f up, sum_below-suc (used_at pool level t f) i)
 
-used_next : (old : Pool) (level t f i : ℕ)
+pub used_next : (old : Pool) (level t f i : ℕ)
     → sum_below (used_at old level t f) (i + 1) ≡ sum_below (used_at old level t f) i + used_at old level t f i
 used_next old level t f i =
     ap (sum_below (used_at old level t f)) (let e : i + 1 ≡ suc i = omega arith in e) ∙ sum_below-suc (used_at old level t f) i
@@ -161,7 +158,7 @@ root_left old cur level l t i up le tree r =
 
 entry_left : (old cur : Pool) (level t i : ℕ) → i < TABLE_ENTRIES → IsTakingDown old cur level t i
     → memory cur.words level t i ≡ memory old.words level t i
-entry_left old cur level t i lt r = same_entry old.words cur.words level t i (r.partway.row i lt (omega arith))
+entry_left old cur level t i lt r = same_entry old.words cur.words level t i (r.row i lt (omega arith))
 
 -- what lies under the next entry is as it was
 same_below : (old cur : Pool) (level l t i c f : ℕ) → level ≡ suc l → i < TABLE_ENTRIES → IsTree old level t
@@ -173,7 +170,7 @@ same_below old cur level l t i c f up lt tree r is =
     let used = used_table old level t g i c is in
     let part = part_of old level l t g i up lt in
     same_entry old.words cur.words l' g k
-    (r.partway.others g k k_in (λ e. let own : one_if_same t g ≡ one_if_same t t = ap (λ x. one_if_same t x) e in
+    (r.others g k k_in (λ e. let own : one_if_same t g ≡ one_if_same t t = ap (λ x. one_if_same t x) e in
     omega (arith, part, used, tree.once g, one_if_same-self t))
     (omega (arith, part, used, tree.once g)))))
 
@@ -228,29 +225,18 @@ below_left old cur level l t i c up lt tree r is =
           );
     }
 
--- in the turn of the next entry
-pub in_turn : (old cur : Pool) (m : Moment) (level l t i : ℕ) → level ≡ suc l → i < TABLE_ENTRIES → IsTree old level t
-    → IsTakingDown old cur level t i → IsEndingUnder cur m level t i → IsPartway old m level t (i + 1)
-in_turn old cur m level l t i up lt tree r e = record {
+-- one more entry
+pub taking_down_more : (old cur new : Pool) (level l t i : ℕ) → level ≡ suc l → i < TABLE_ENTRIES → IsTree old level t
+    → IsTakingDown old cur level t i → IsFreed cur new level t i → IsTakingDown old new level t (i + 1)
+taking_down_more old cur new level l t i up lt tree r e = record {
+  free = λ f. omega (arith, e.free f, r.free f, used_left old cur level l t i f up lt tree r, used_next old level t f i);
   cleared = λ k k_in. ⊎_elim
-      (λ (same : k ≡ i). subst (λ j. word m.words t j ≡ 0) (sym same) e.cleared)
-      (λ (ne : k ≢ i). e.row k (omega arith) ne ∙ r.partway.cleared k (omega arith))
+      (λ (same : k ≡ i). subst (λ j. word new.words t j ≡ 0) (sym same) e.cleared)
+      (λ (ne : k ≢ i). e.row k (omega arith) ne ∙ r.cleared k (omega arith))
       (same_or_not k i);
   others = λ f k k_in ne none.
       e.others f k k_in ne (omega (arith, none, used_left old cur level l t i f up lt tree r, used_next old level t f i))
-      ∙ r.partway.others f k k_in ne (omega (arith, none, used_next old level t f i));
-  row = λ k k_in le. e.row k k_in (λ same. omega arith) ∙ r.partway.row k k_in (omega arith);
-  free = λ f.
-      omega (arith, e.free f, r.free f, used_left old cur level l t i f up lt tree r, used_next old level t f i);
-}
-
--- one more entry
-pub taking_down_more : (old cur new : Pool) (level l t i : ℕ) → level ≡ suc l → i < TABLE_ENTRIES → IsTree old level t
-    → IsTakingDown old cur level t i → IsEndingUnder cur (moment_of new) level t i
-    → ((f : ℕ) → occurs f new.free ≡ occurs f cur.free + used_at cur level t f i) → new.frames ≡ cur.frames
-    → IsTakingDown old new level t (i + 1)
-taking_down_more old cur new level l t i up lt tree r e free frames = record {
-  partway = in_turn old cur (moment_of new) level l t i up lt tree r e;
-  free = λ f. omega (arith, free f, r.free f, used_left old cur level l t i f up lt tree r, used_next old level t f i);
-  frames = frames ∙ r.frames;
+      ∙ r.others f k k_in ne (omega (arith, none, used_next old level t f i));
+  row = λ k k_in le. e.row k k_in (λ same. omega arith) ∙ r.row k k_in (omega arith);
+  frames = e.frames ∙ r.frames;
 }

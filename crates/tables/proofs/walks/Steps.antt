@@ -1,5 +1,5 @@
 -- One step of a walk, and of the count of frames.
-use Rattle.std.proofs.Common.{◌≡◌, ◌≢◌, ℕ, zero, suc, ◌+◌, ◌*◌, ◌/◌, ◌%◌, ◌<◌, ◌≤◌, ◌⊎◌, inl, inr, ⊎_elim, cond, eqb, true, false}
+use Rattle.std.proofs.Common.{◌≡◌, ◌≢◌, ℕ, zero, suc, ◌+◌, ◌-◌, ◌*◌, ◌/◌, ◌%◌, ◌<◌, ◌≤◌, ◌⊎◌, inl, inr, ⊎_elim, cond, eqb, true, false}
 use Rattle.std.proofs.Common.{Option, Some, None, refl, sym, ap, subst, ◌∙◌, arith, mul_comm}
 use Rattle.std.proofs.Math.Nat.{div-div-eq-div-mul, div-one}
 use Rattle.std.proofs.lemmas.Bool.Decides.{nat_tests, eqb_tells}
@@ -95,6 +95,29 @@ found_used m (suc l) t p w c found =
     by_entry below (Table b) is h = under m l t (index_in l p) b c (index_lt l p) is (below b h)
     by_entry below (Leaf s) is h = absurd (none-some c h)
     by_entry below (LargeLeaf s) is h = absurd (none-some c h)
+
+-- a table that a walk finds below the first one is below one that an entry there names
+found_under : (m : Memory) (l t p w c : ℕ) → w < suc l → table_from m (suc l) t p w ≡ Some c
+    → (b : ℕ) × ((m (suc l) t (index_in l p) ≡ Table b) × (table_from m l b p w ≡ Some c))
+found_under m l t p w c lower found =
+    by_entry (m (suc l) t (index_in l p)) refl
+    (sym (table_under m l t p w (m (suc l) t (index_in l p)) (λ e. omega arith) refl) ∙ found)
+  where
+    by_entry : (e : SsEntry) → m (suc l) t (index_in l p) ≡ e → table_of e (λ b. table_from m l b p w) ≡ Some c
+        → (b : ℕ) × ((m (suc l) t (index_in l p) ≡ Table b) × (table_from m l b p w ≡ Some c))
+    by_entry Absent is h = absurd (none-some c h)
+    by_entry (Table b) is h = (b, (is, h))
+    by_entry (Leaf s) is h = absurd (none-some c h)
+    by_entry (LargeLeaf s) is h = absurd (none-some c h)
+
+pub found_below : (m : Memory) (level t p w c : ℕ) → w < level → table_from m level t p w ≡ Some c
+    → (b : ℕ) × ((m level t (index_in (level - 1) p) ≡ Table b) × (table_from m (level - 1) b p w ≡ Some c))
+found_below m level t p w c lower found =
+    let up : level ≡ suc (level - 1) = omega arith in
+    subst
+    (λ v. table_from m v t p w ≡ Some c
+    → (b : ℕ) × ((m v t (index_in (level - 1) p) ≡ Table b) × (table_from m (level - 1) b p w ≡ Some c)))
+    (sym up) (found_under m (level - 1) t p w c (omega arith)) found
 
 -- a bare table uses itself alone
 pub uses-bare : (m : Memory) (l t f : ℕ) → IsBare m t → uses m (suc l) t f ≡ one_if_same t f

@@ -2,21 +2,20 @@ use Rattle.std.proofs.Common.{◌≡◌, ◌-◌, ap, ◌∙◌, arith, rules}
 use Rattle.dmatypes.specs.declared.page.TheConstants.{SPAN_PAGES}
 use Rattle.tables.specs.declared.entries.TheConstants.{TABLE_ENTRIES}
 use Rattle.tables.specs.Tree.{sum_below, uses}
-use Rattle.tables.specs.Pool.{memory, moment_of, occurs, word}
+use Rattle.tables.specs.Pool.{memory, word}
 use Rattle.tables.specs.Under.{used_at}
-use Rattle.tables.specs.Ending.{IsEnding, IsEndingUnder}
 use Rattle.tables.proofs.sums.OneFrame.{one_if_same-self}
 use Rattle.tables.proofs.walks.Levels.{root_in_level}
-use Rattle.tables.proofs.trails.Each.{no_moment}
+use Rattle.tables.proofs.trails.Ends.{no_end}
 use Rattle.tables.proofs.unmaps.Destroyed.{taking_down_start, taking_down_more, root_left, taken_left}
-use Rattle.tables.proofs.unmaps.Destroyed.{below_left, cleared_first, given_then, nothing_used, tree_apart, used_then, uses_level}
-use Rattle.tables.proofs.unmaps.Ending.{ending_below, ending_last, ending_more, ending_under}
+use Rattle.tables.proofs.unmaps.Destroyed.{IsFreed, below_left, nothing_freed, table_freed, tree_apart, uses_level}
+use Rattle.tables.proofs.unmaps.Ending.{ending_last, ending_more, entry_cleared, entry_ends}
 use Rattle.tables.proofs.unmapping.+taking_down.Goals as goal
 
 pub take_down-loop-index-init : goal.take_down-loop-index-init
 take_down-loop-index-init t c = record {
   state = taking_down_start c.args.pool.now c.args.level c.args.table;
-  moments = no_moment c.args.pool.now (λ m. IsEnding c.args.pool.now m c.args.level c.args.table);
+  order = no_end c.args.pool.now c.args.level c.args.table;
 }
 
 pub take_down-take_down_entry-requires : goal.take_down-take_down_entry-requires
@@ -49,22 +48,22 @@ take_down-take_down_entry-requires t c = (
 
 pub take_down-loop-index-preserved : goal.take_down-loop-index-preserved
 take_down-loop-index-preserved t c =
-    let cleared : IsEndingUnder c.loop-index.pool (moment_of c.take_down_entry.new.pool) c.args.level c.args.table c.loop-index.index =
+    let freed : IsFreed c.loop-index.pool c.take_down_entry.new.pool c.args.level c.args.table c.loop-index.index =
     record {
+      free = c.take_down_entry.ensures.free;
       cleared = c.take_down_entry.ensures.cleared;
       row = c.take_down_entry.ensures.row;
       others = c.take_down_entry.ensures.others;
-      free = λ f. omega (arith, c.take_down_entry.ensures.free f);
+      frames = c.take_down_entry.ensures.frames;
     } in
     record {
       state =
           taking_down_more c.args.pool.now c.loop-index.pool c.take_down_entry.new.pool c.args.level (c.args.level - 1) c.args.table
-          c.loop-index.index (omega arith) c.loop-index-test.true c.requires.tree c.loop-index.invariant.state cleared
-          c.take_down_entry.ensures.free c.take_down_entry.ensures.frames;
-      moments =
-          ending_more c.args.pool.now c.loop-index.pool c.take_down_entry.new.pool c.args.level (c.args.level - 1) c.args.table
-          c.loop-index.index (omega arith) c.loop-index-test.true c.requires.tree c.loop-index.invariant.state
-          c.loop-index.invariant.moments c.take_down_entry.ensures.moments;
+          c.loop-index.index (omega arith) c.loop-index-test.true c.requires.tree c.loop-index.invariant.state freed;
+      order =
+          ending_more c.args.pool.now c.loop-index.pool c.args.level c.args.table c.loop-index.index c.requires.low
+          c.loop-index-test.true c.requires.tree c.loop-index.invariant.state c.take_down_entry.new.pool c.loop-index.invariant.order
+          c.take_down_entry.ensures.order;
     }
 
 pub take_down-give-requires-clause-within : goal.take_down-give-requires-clause-within
@@ -102,7 +101,7 @@ take_down-returns-clause-others t c f k k_in none =
     ap (sum_below (used_at c.args.pool.now c.args.level c.args.table f)) done in
     let whole = uses_level c.args.pool.now c.args.level (c.args.level - 1) c.args.table f (omega arith) in
     ap (λ ws. word ws f k) c.give.ensures.words
-    ∙ c.loop-index.invariant.state.partway.others f k k_in
+    ∙ c.loop-index.invariant.state.others f k k_in
     (λ e.
     let own : uses (memory c.args.pool.now.words) c.args.level c.args.table f
     ≡ uses (memory c.args.pool.now.words) c.args.level c.args.table c.args.table =
@@ -116,12 +115,11 @@ take_down-returns-clause-others t c f k k_in none =
     ))
     (omega (arith, all, whole, none))
 
-pub take_down-returns-clause-moments : goal.take_down-returns-clause-moments
-take_down-returns-clause-moments t c =
+pub take_down-returns-clause-order : goal.take_down-returns-clause-order
+take_down-returns-clause-order t c =
     let done : c.loop-index.index ≡ SPAN_PAGES = omega (arith, c.loop-index.auto.index-end, c.loop-index-test.false) in
-    ending_last c.args.pool.now c.loop-index.pool c.give.new.self c.args.level (c.args.level - 1) c.args.table c.loop-index.index
-    (omega arith) done c.loop-index.invariant.state c.loop-index.invariant.moments c.give.ensures.trail c.give.ensures.words
-    (take_down-returns-clause-free t c) (take_down-returns-clause-others t c)
+    ending_last c.args.pool.now c.loop-index.pool c.give.new.self c.args.level c.args.table c.loop-index.index c.requires.low done
+    c.loop-index.invariant.state c.loop-index.invariant.order c.give.ensures.trail c.give.ensures.words c.give.ensures.free
 
 pub take_down_entry-take_down-requires : goal.take_down_entry-take_down-requires
 take_down_entry-take_down-requires t c =
@@ -132,51 +130,37 @@ take_down_entry-take_down-requires t c =
 
 pub take_down_entry-returns-in-Table : goal.take_down_entry-returns-in-Table
 take_down_entry-returns-in-Table t c =
-    let cleared =
-    given_then c.args.pool.now c.write.new.self (moment_of c.take_down.new.pool) c.args.level c.args.table c.args.index c.in-Table.below
-    c.requires.index c.in-Table.ensures.is c.requires.taken c.write.ensures.wrote c.write.ensures.free c.take_down.ensures.others
-    (λ f. omega (arith, c.take_down.ensures.free f)) in
+    let freed =
+    table_freed c.args.pool.now c.write.new.self c.take_down.new.pool c.args.level c.args.table c.args.index c.in-Table.below
+    c.requires.index c.in-Table.ensures.is c.requires.taken c.write.ensures.wrote c.write.ensures.free c.write.ensures.frames
+    c.take_down.ensures.free c.take_down.ensures.others c.take_down.ensures.frames in
     record {
-      free =
-          λ f.
-          omega (
-            arith,
-            c.take_down.ensures.free f,
-            ap (occurs f) c.write.ensures.free,
-            used_then c.args.pool.now c.write.new.self c.args.level c.args.table c.args.index c.in-Table.below f c.in-Table.ensures.is
-                c.requires.taken c.write.ensures.wrote,
-          );
-      cleared = cleared.cleared;
-      row = cleared.row;
-      others = cleared.others;
-      moments =
-          ending_below c.args.pool.now c.write.new.self c.take_down.new.pool c.args.level c.args.table c.args.index c.in-Table.below
-          c.requires.index c.in-Table.ensures.is c.requires.taken c.write.ensures.trail c.write.ensures.wrote c.write.ensures.free
-          c.take_down.ensures.moments;
-      frames = c.take_down.ensures.frames ∙ c.write.ensures.frames;
+      free = freed.free;
+      cleared = freed.cleared;
+      row = freed.row;
+      others = freed.others;
+      order =
+          entry_ends c.args.pool.now c.write.new.self c.take_down.new.pool c.args.level c.args.table c.args.index c.in-Table.below
+          c.requires.index c.in-Table.ensures.is c.requires.taken c.write.ensures.wrote c.take_down.ensures.order
+          (entry_cleared c.args.pool.now c.write.new.self c.args.level c.args.table c.args.index c.write.ensures.trail
+          c.write.ensures.wrote c.write.ensures.free c.requires.below);
+      frames = freed.frames;
       pool = c.take_down.ensures.pool;
     }
 
 pub take_down_entry-returns-in_default : goal.take_down_entry-returns-in_default
 take_down_entry-returns-in_default t c =
-    let cleared =
-    cleared_first c.args.pool.now (moment_of c.write.new.self) c.args.level c.args.table c.args.index c.write.ensures.wrote
-    c.write.ensures.free in
+    let freed =
+    nothing_freed c.args.pool.now c.write.new.self c.args.level c.args.table c.args.index c.entry-named.result c.entry-named.ensures.is
+    c.in_default.not-Table c.write.ensures.wrote c.write.ensures.free c.write.ensures.frames in
     record {
-      free =
-          λ f.
-          omega (
-            arith,
-            ap (occurs f) c.write.ensures.free,
-            nothing_used c.args.pool.now c.args.level c.args.table c.args.index f c.entry-named.result c.entry-named.ensures.is
-                c.in_default.not-Table,
-          );
-      cleared = cleared.cleared;
-      row = cleared.row;
-      others = cleared.others;
-      moments =
-          ending_under c.args.pool.now c.write.new.self c.args.level c.args.table c.args.index c.write.ensures.trail
-          c.write.ensures.wrote c.write.ensures.free;
-      frames = c.write.ensures.frames;
+      free = freed.free;
+      cleared = freed.cleared;
+      row = freed.row;
+      others = freed.others;
+      order =
+          entry_cleared c.args.pool.now c.write.new.self c.args.level c.args.table c.args.index c.write.ensures.trail
+          c.write.ensures.wrote c.write.ensures.free c.requires.below;
+      frames = freed.frames;
       pool = c.write.ensures.pool;
     }

@@ -1,6 +1,5 @@
 use Rattle.std.proofs.Common.{◌*◌, ◌-◌}
-use Rattle.tables.specs.Ending.{IsEnding}
-use Rattle.tables.specs.Trail.{AtEachMoment}
+use Rattle.tables.specs.Trail.{EndsInOrder}
 use Rattle.tables.proofs.unmaps.Destroyed.{IsTakingDown}
 use Rattle.tables.proofs.unmapping.+taking_down.Given as goal
 
@@ -13,5 +12,5 @@ decreases-take_down_entry l = 2 * l.level - 1
 abbrev pub invariant-take_down-loop-index : goal.invariant-take_down-loop-index
 invariant-take_down-loop-index l = record {
   state : IsTakingDown l.initial.pool l.pool l.level l.table l.index;
-  moments : AtEachMoment l.initial.pool l.pool (λ m. IsEnding l.initial.pool m l.level l.table);
+  order : EndsInOrder l.initial.pool l.pool l.level l.table;
 }

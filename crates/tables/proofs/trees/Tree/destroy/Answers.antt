@@ -2,10 +2,8 @@ use Rattle.std.proofs.Common.{◌+◌, ap, subst, ◌∙◌}
 use Rattle.dmatypes.specs.Page.{levels}
 use Rattle.tables.specs.Pool.{memory, occurs}
 use Rattle.tables.specs.Tree.{uses}
-use Rattle.tables.specs.Ending.{IsEnding}
-use Rattle.tables.specs.Trail.{EndsInOrder, NamesNoneFree}
+use Rattle.tables.specs.Trail.{EndsInOrder}
 use Rattle.tables.proofs.pools.Kept.{given_stays}
-use Rattle.tables.proofs.trails.Each.{moments_say}
 use Rattle.tables.proofs.trees.Tree.destroy.Goals as goal
 
 pub returns-clause-others : goal.returns-clause-others
@@ -18,9 +16,4 @@ returns-clause-others c level table tree apart =
 
 pub returns-clause-order : goal.returns-clause-order
 returns-clause-order c =
-    let old = c.args.pool.now in
-    let new = c.take_down.new.pool in
-    let root = c.args.self.root in
-    subst (λ l. EndsInOrder old new l root) c.levels.ensures.exact
-    (moments_say old new (λ m. IsEnding old m c.levels.result root) (λ m. NamesNoneFree m c.levels.result root) (λ m e. e.named)
-    c.take_down.ensures.moments)
+    subst (λ l. EndsInOrder c.args.pool.now c.take_down.new.pool l c.args.self.root) c.levels.ensures.exact c.take_down.ensures.order
