@@ -63,6 +63,17 @@ used_then old mid level t i c f is taken wrote =
     let none : uses (memory old.words) (level - 1) c t ≡ 0 = omega (arith, taken, used_table old level t t i c is) in
     apart_uses old mid t i (level - 1) c f wrote none ∙ sym (used_table old level t f i c is)
 
+-- an entry that names no table uses nothing
+pub nothing_used : (old : Pool) (level t i f : ℕ) (e : SsEntry) → memory old.words level t i ≡ e → ((c : ℕ) → e ≡ Table c → ⊥)
+    → used_at old level t f i ≡ 0
+nothing_used old level t i f e is other = used_none old level t f i e is (by_entry e other)
+  where
+    by_entry : (e : SsEntry) → ((c : ℕ) → e ≡ Table c → ⊥) → (below : ℕ → ℕ) → entry_uses e below ≡ 0
+    by_entry Absent other below = refl
+    by_entry (Table c) other below = absurd (other c refl)
+    by_entry (Leaf x) other below = refl
+    by_entry (LargeLeaf x) other below = refl
+
 -- its word is 0, what lay below it came free, and nothing else changed
 pub record IsFreed (old new : Pool) (level t i : ℕ) : Type 0 where
   pub free : (f : ℕ) → occurs f new.free ≡ occurs f old.free + used_at old level t f i
@@ -88,23 +99,6 @@ table_freed old mid new level t i c i_in is taken wrote mid_free mid_frames free
       others = λ f k k_in ne unused. others f k k_in (same f ∙ unused) ∙ wrote.1 f k k_in (λ e _. ne e);
       frames = frames ∙ mid_frames;
     }
-
-pub nothing_freed : (old new : Pool) (level t i : ℕ) (e : SsEntry) → memory old.words level t i ≡ e
-    → ((c : ℕ) → e ≡ Table c → ⊥) → IsWrite old.words new.words t i 0 → new.free ≡ old.free → new.frames ≡ old.frames
-    → IsFreed old new level t i
-nothing_freed old new level t i e is other wrote free frames = record {
-  free = λ f. omega (arith, ap (occurs f) free, used_none old level t f i e is (by_entry e other));
-  cleared = wrote.0;
-  row = λ k k_in ne. wrote.1 t k k_in (λ _ e. ne e);
-  others = λ f k k_in ne unused. wrote.1 f k k_in (λ e _. ne e);
-  frames = frames;
-}
-  where
-    by_entry : (e : SsEntry) → ((c : ℕ) → e ≡ Table c → ⊥) → (below : ℕ → ℕ) → entry_uses e below ≡ 0
-    by_entry Absent other below = refl
-    by_entry (Table c) other below = absurd (other c refl)
-    by_entry (Leaf x) other below = refl
-    by_entry (LargeLeaf x) other below = refl
 
 -- ---- all of them
 

@@ -1,16 +1,35 @@
-use Rattle.std.proofs.Common.{◌≡◌, ◌-◌, ap, ◌∙◌, arith, rules}
+use Rattle.std.proofs.Common.{◌≡◌, ℕ, ◌-◌, ap, ◌∙◌, arith, rules}
 use Rattle.dmatypes.specs.declared.page.TheConstants.{SPAN_PAGES}
 use Rattle.tables.specs.declared.entries.TheConstants.{TABLE_ENTRIES}
 use Rattle.tables.specs.Tree.{sum_below, uses}
-use Rattle.tables.specs.Pool.{memory, word}
+use Rattle.tables.specs.Pool.{memory, occurs, word}
 use Rattle.tables.specs.Under.{used_at}
 use Rattle.tables.proofs.sums.OneFrame.{one_if_same-self}
 use Rattle.tables.proofs.walks.Levels.{root_in_level}
 use Rattle.tables.proofs.trails.Ends.{no_end}
 use Rattle.tables.proofs.unmaps.Destroyed.{taking_down_start, taking_down_more, root_left, taken_left}
-use Rattle.tables.proofs.unmaps.Destroyed.{IsFreed, below_left, nothing_freed, table_freed, tree_apart, uses_level}
+use Rattle.tables.proofs.unmaps.Destroyed.{IsFreed, below_left, nothing_used, table_freed, tree_apart, uses_level}
 use Rattle.tables.proofs.unmaps.Ending.{ending_last, ending_more, entry_cleared, entry_ends}
 use Rattle.tables.proofs.unmapping.+taking_down.Goals as goal
+
+-- the order first: it alone tells some wrong bodies from the right ones
+pub take_down-returns-clause-order : goal.take_down-returns-clause-order
+take_down-returns-clause-order t c =
+    let done : c.loop-index.index ≡ SPAN_PAGES = omega (arith, c.loop-index.auto.index-end, c.loop-index-test.false) in
+    ending_last c.args.pool.now c.loop-index.pool c.give.new.self c.args.level c.args.table c.loop-index.index c.requires.low done
+    c.loop-index.invariant.state c.loop-index.invariant.order c.give.ensures.trail c.give.ensures.words c.give.ensures.free
+
+pub take_down_entry-returns-in-Table-clause-order : goal.take_down_entry-returns-in-Table-clause-order
+take_down_entry-returns-in-Table-clause-order t c =
+    entry_ends c.args.pool.now c.write.new.self c.take_down.new.pool c.args.level c.args.table c.args.index c.in-Table.below
+    c.requires.index c.in-Table.ensures.is c.requires.taken c.write.ensures.wrote c.take_down.ensures.order
+    (entry_cleared c.args.pool.now c.write.new.self c.args.level c.args.table c.args.index c.write.ensures.trail c.write.ensures.wrote
+    c.write.ensures.free c.requires.below)
+
+pub take_down_entry-returns-in_default-clause-order : goal.take_down_entry-returns-in_default-clause-order
+take_down_entry-returns-in_default-clause-order t c =
+    entry_cleared c.args.pool.now c.write.new.self c.args.level c.args.table c.args.index c.write.ensures.trail c.write.ensures.wrote
+    c.write.ensures.free c.requires.below
 
 pub take_down-loop-index-init : goal.take_down-loop-index-init
 take_down-loop-index-init t c = record {
@@ -115,12 +134,6 @@ take_down-returns-clause-others t c f k k_in none =
     ))
     (omega (arith, all, whole, none))
 
-pub take_down-returns-clause-order : goal.take_down-returns-clause-order
-take_down-returns-clause-order t c =
-    let done : c.loop-index.index ≡ SPAN_PAGES = omega (arith, c.loop-index.auto.index-end, c.loop-index-test.false) in
-    ending_last c.args.pool.now c.loop-index.pool c.give.new.self c.args.level c.args.table c.loop-index.index c.requires.low done
-    c.loop-index.invariant.state c.loop-index.invariant.order c.give.ensures.trail c.give.ensures.words c.give.ensures.free
-
 pub take_down_entry-take_down-requires : goal.take_down_entry-take_down-requires
 take_down_entry-take_down-requires t c =
     let tree = c.requires.below c.in-Table.below c.in-Table.ensures.is in
@@ -128,39 +141,31 @@ take_down_entry-take_down-requires t c =
     tree_apart c.args.pool.now c.args.level c.args.table c.args.index c.in-Table.below c.in-Table.ensures.is c.requires.taken tree in
     (omega arith, (search rules, (omega arith, search apart)))
 
-pub take_down_entry-returns-in-Table : goal.take_down_entry-returns-in-Table
-take_down_entry-returns-in-Table t c =
-    let freed =
+-- what became of a table that an entry named
+table_gone : (t : ℕ) (c : goal.take_down_entry-After-take_down t)
+    → IsFreed c.args.pool.now c.take_down.new.pool c.args.level c.args.table c.args.index
+table_gone t c =
     table_freed c.args.pool.now c.write.new.self c.take_down.new.pool c.args.level c.args.table c.args.index c.in-Table.below
     c.requires.index c.in-Table.ensures.is c.requires.taken c.write.ensures.wrote c.write.ensures.free c.write.ensures.frames
-    c.take_down.ensures.free c.take_down.ensures.others c.take_down.ensures.frames in
-    record {
-      free = freed.free;
-      cleared = freed.cleared;
-      row = freed.row;
-      others = freed.others;
-      order =
-          entry_ends c.args.pool.now c.write.new.self c.take_down.new.pool c.args.level c.args.table c.args.index c.in-Table.below
-          c.requires.index c.in-Table.ensures.is c.requires.taken c.write.ensures.wrote c.take_down.ensures.order
-          (entry_cleared c.args.pool.now c.write.new.self c.args.level c.args.table c.args.index c.write.ensures.trail
-          c.write.ensures.wrote c.write.ensures.free c.requires.below);
-      frames = freed.frames;
-      pool = c.take_down.ensures.pool;
-    }
+    c.take_down.ensures.free c.take_down.ensures.others c.take_down.ensures.frames
 
-pub take_down_entry-returns-in_default : goal.take_down_entry-returns-in_default
-take_down_entry-returns-in_default t c =
-    let freed =
-    nothing_freed c.args.pool.now c.write.new.self c.args.level c.args.table c.args.index c.entry-named.result c.entry-named.ensures.is
-    c.in_default.not-Table c.write.ensures.wrote c.write.ensures.free c.write.ensures.frames in
-    record {
-      free = freed.free;
-      cleared = freed.cleared;
-      row = freed.row;
-      others = freed.others;
-      order =
-          entry_cleared c.args.pool.now c.write.new.self c.args.level c.args.table c.args.index c.write.ensures.trail
-          c.write.ensures.wrote c.write.ensures.free c.requires.below;
-      frames = freed.frames;
-      pool = c.write.ensures.pool;
-    }
+pub take_down_entry-returns-in-Table-clause-free : goal.take_down_entry-returns-in-Table-clause-free
+take_down_entry-returns-in-Table-clause-free t c = (table_gone t c).free
+
+pub take_down_entry-returns-in-Table-clause-cleared : goal.take_down_entry-returns-in-Table-clause-cleared
+take_down_entry-returns-in-Table-clause-cleared t c = (table_gone t c).cleared
+
+pub take_down_entry-returns-in-Table-clause-row : goal.take_down_entry-returns-in-Table-clause-row
+take_down_entry-returns-in-Table-clause-row t c = (table_gone t c).row
+
+pub take_down_entry-returns-in-Table-clause-others : goal.take_down_entry-returns-in-Table-clause-others
+take_down_entry-returns-in-Table-clause-others t c = (table_gone t c).others
+
+pub take_down_entry-returns-in_default-clause-free : goal.take_down_entry-returns-in_default-clause-free
+take_down_entry-returns-in_default-clause-free t c f =
+    omega (
+      arith,
+      ap (occurs f) c.write.ensures.free,
+      nothing_used c.args.pool.now c.args.level c.args.table c.args.index f c.entry-named.result c.entry-named.ensures.is
+          c.in_default.not-Table,
+    )
