@@ -1,5 +1,6 @@
--- That a detach which was done is followed by a flush which is done too.
-use Rattle.std.proofs.Common.{◌≡◌, inl, inr, ℕ, true, false, List, ◌++◌, Some, Ok, Err, Result, ap, sym, subst, ◌∙◌, slice_get}
+-- That a detach which was done is followed by a flush which is done too, and what is cached once both are.
+use Rattle.std.proofs.Common.{◌≡◌, ⊎_elim, inl, inr, ℕ, true, false, List, ◌++◌, Option, Some, Ok, Err, Result, ap, sym, subst, ◌∙◌}
+use Rattle.std.proofs.Common.{slice_get}
 use Rattle.std.specs.Prelude.{IsNone}
 use Rattle.std.proofs.lemmas.Option.{same_Some}
 use Rattle.dmatypes.specs.Conditions.{Stands}
@@ -7,16 +8,23 @@ use Rattle.dmatypes.specs.Step.{IsStep}
 use Rattle.dmatypes.specs.World as world
 use Rattle.dmatypes.specs.declared.call.Call.TheVariants as calls
 use Rattle.dmatypes.specs.declared.refusal.Refusal.{Refusal}
-use Rattle.dmatypes.specs.declared.reply.Reply.TheVariants.{Done, Refused}
+use Rattle.dmatypes.specs.declared.reply.Reply.TheVariants.{Done, Flushed, Refused}
 use Rattle.vtdbits.specs.Context.{attached}
+use Rattle.vtdbits.specs.declared.descriptor.Descriptor.TheVariants.{IotlbDomain}
+use Rattle.engine.specs.declared.iommu.Shown.{Shown}
 use Rattle.engine.specs.Domains.{Domain, domain_at}
+use Rattle.engine.specs.Ending.{Invalidates, domain_shown}
 use Rattle.engine.specs.Quarantine.{IsOfSomeWorld}
 use Rattle.engine.specs.State.{Becomes, State, flushed_reply}
 use Rattle.engine.specs.Steps.{Does}
 use Rattle.engine.proofs.domains.OneChanged.{both_there}
+use Rattle.quiet.proofs.Ends.{detaches_forget, no_fault_left}
+use Rattle.quiet.proofs.Lazily.{no_table_left, none_left}
+use Rattle.quiet.proofs.Sent.{sent_last}
 use Rattle.quiet.specs.Quiet.{IsSound}
 use Rattle.driven.specs.declared.effect.Effect.{Effect}
 use Rattle.driven.specs.Effects.{AreEffects, DetachesAll, DoesBoth}
+use Rattle.driven.specs.Laws.{DetachesAllForget}
 
 -- a flush of a domain that there is isn't refused
 not_lacking : (w : world.World) (d : ℕ) (v : world.Domain) (r : Refusal) → w.domains d ≡ Some v → IsStep w (calls.Flush d) (Refused r) → ⊥
@@ -85,3 +93,23 @@ module _ (m s : State) (device : ℕ) (sound : IsSound m) (does : Does m (calls.
   both t d own first second es asks (Err r) flushes asks_then joined =
       absurd (not_refused s t had.0 had.1 r after had.2.1
       (subst (λ n. Does s (calls.Flush n) (Refused r) t) (same_Some d had.0 (sym own ∙ had.2.0)) flushes))
+
+-- ---- what is cached once both are done
+
+flush_sends : (s t : State) (d released : ℕ) → Becomes s (calls.Flush d) (Flushed released) t
+    → (seen : Option Shown) × Invalidates s.iommu (IotlbDomain d) seen t.iommu
+unfolding Becomes
+flush_sends s t d released (h, new, here, flushes, is) = (domain_shown s.pool h, flushes.invalidates)
+
+pub detaches_all_forget : DetachesAllForget
+detaches_all_forget m t device released both c d sound last done =
+    let (seen, sends) = flush_sends both.between t both.domain released both.flushes.becomes in
+    let is : d ≡ IotlbDomain both.domain =
+    sent_last both.between.iommu t.iommu (IotlbDomain both.domain) d seen done.0 done.1 sends done.2 in (
+      λ leaf left here. none_left both.domain d leaf is here left,
+      λ table left here. no_table_left both.domain d table is here left,
+      λ fault left here. no_fault_left both.domain d fault is here left,
+      λ x cached. detaches_forget m both.between device c x sound both.detaches last
+          (⊎_elim (λ left. inl left)
+          (λ row. inr (⊎_elim (λ then. then) (λ since. ap (λ r. slice_get r x.device) (sym sends.contexts) ∙ since) row)) cached),
+    )

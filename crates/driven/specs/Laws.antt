@@ -1,5 +1,6 @@
--- Which words of table frames each call changes, what it submits, and what a walk finds while its effects reach memory.
-use Rattle.std.specs.Prelude.{◌≡◌, ◌≢◌, ◌⊎◌, ℕ, suc, ◌+◌, ◌/◌, ◌%◌, ◌<◌, Bool, true, if◌then◌else◌, List, ◌∷◌, ◌++◌, Some, take}
+-- Which words of table frames each call changes, what it submits, what a walk finds while its effects reach memory, and what is cached once
+-- a detach and a flush after it are done.
+use Rattle.std.specs.Prelude.{◌≡◌, ◌≢◌, ◌⊎◌, ℕ, suc, ◌+◌, ◌/◌, ◌%◌, ◌<◌, Bool, false, true, if◌then◌else◌, List, ◌∷◌, ◌++◌, Some, take}
 use Rattle.vtdbits.specs.declared.descriptor.Descriptor.{Descriptor}
 use Rattle.vtdbits.specs.declared.words.Words.{Words}
 use Rattle.queue.specs.Ring.{submitted_in}
@@ -13,17 +14,19 @@ use Rattle.dmatypes.specs.declared.reply.Reply.TheVariants.{Done, Mapped, Unmapp
 use Rattle.tables.specs.declared.entries.TheConstants.{TABLE_ENTRIES}
 use Rattle.tables.specs.Pool.{word}
 use Rattle.moments.specs.Moments.{GoesDown, IsFilledFirst, IsOldOrNew, Reached, word_read}
+use Rattle.unit.specs.Caches.{CachedContext, CachedFault, CachedLeaf, CachedNonLeaf}
+use Rattle.unit.specs.Filters.{drops_context, drops_fault, drops_leaf, drops_non_leaf}
 use Rattle.engine.specs.Domains.{Domain, domain_at}
 use Rattle.engine.specs.State.{State}
 use Rattle.engine.specs.Steps.{Does}
 use Rattle.engine.specs.Tickets.{KeepsTickets}
 use Rattle.engine.specs.Walkable.{SpellsContext}
-use Rattle.quiet.specs.Quiet.{IsSound}
+use Rattle.quiet.specs.Quiet.{IsDoneLast, IsOfRow, IsSound}
 use Rattle.driven.specs.declared.effect.Half.{Half}
 use Rattle.driven.specs.declared.effect.Half.TheVariants.{High, Low}
 use Rattle.driven.specs.declared.effect.Effect.{Effect}
 use Rattle.driven.specs.declared.effect.Effect.TheVariants.{Barrier}
-use Rattle.driven.specs.Effects.{AreEffects, GoesFirst, IsBrought, SendsWith}
+use Rattle.driven.specs.Effects.{AreEffects, GoesFirst, IsBrought, IsDetachedAndFlushed, SendsWith}
 use Rattle.driven.specs.Walks.{IsExchanged, IsOnWalks}
 
 -- the word lies on the way of one of so many pages of the domain, from a first one on, after the call
@@ -169,3 +172,20 @@ ContextsAreOldOrNew =
     → GoesFirst t device first
     → IsReadFirst first reached
     → IsReadAs (halves_read old new reached) old ⊎ IsReadAs (halves_read old new reached) new
+
+-- ---- a detach, and a flush after it
+
+-- A device is detached, and then the domain that it had is flushed. Once the flush's descriptor is done, nothing that is cached is of the
+-- domain, whatever was cached before: no leaf of a page, be it live or retired, no table, and no page as absent. Nor is a context that is
+-- cached the device's: none that the detach's descriptor leaves, and none that is read off the row since. So no walk of the device caches
+-- anything of the domain anew.
+abbrev pub DetachesAllForget : Type 0
+DetachesAllForget =
+    (m t : State) (device released : ℕ) (both : IsDetachedAndFlushed m device released t) (c d : Descriptor)
+    → IsSound m
+    → IsDoneLast both.between c
+    → IsDoneLast t d
+    → ((leaf : CachedLeaf) → drops_leaf d leaf ≡ false → leaf.domain ≢ both.domain)
+    × ((table : CachedNonLeaf) → drops_non_leaf d table ≡ false → table.domain ≢ both.domain)
+    × ((fault : CachedFault) → drops_fault d fault ≡ false → fault.domain ≢ both.domain)
+    × ((x : CachedContext) → (drops_context c x ≡ false) ⊎ (IsOfRow both.between x ⊎ IsOfRow t x) → x.device ≢ device)

@@ -1,8 +1,9 @@
-//! What a call changes of the words that a unit reads, what it submits to the queue, and what a walk finds meanwhile. Each function does
-//! nothing: its contract is the law, and its proof is from the public contracts of `engine` and the crates below it.
+//! What a call changes of the words that a unit reads, what it submits to the queue, what a walk finds meanwhile, and what a detach with a
+//! flush leaves in caches. Each function does nothing: its contract is the law, and its proof is from the public contracts of `engine` and
+//! the crates below it.
 
-ghost use Rattle.driven.specs.Laws.{CallsChangeTheseWords, CallsSubmitAtMostOne, ContextsAreOldOrNew, EachStageIsOldOrNew};
-ghost use Rattle.driven.specs.Laws.{EffectsAreOldOrNew, EffectsFillFirst, EffectsDoneAreReadInOrder, EffectsLeadThere};
+ghost use Rattle.driven.specs.Laws.{CallsChangeTheseWords, CallsSubmitAtMostOne, ContextsAreOldOrNew, DetachesAllForget};
+ghost use Rattle.driven.specs.Laws.{EachStageIsOldOrNew, EffectsAreOldOrNew, EffectsFillFirst, EffectsDoneAreReadInOrder, EffectsLeadThere};
 
 /// Which words of table frames a call changes.
 pub fn calls_change_these_words()
@@ -37,4 +38,10 @@ pub fn contexts_are_old_or_new()
 /// Where all that is brought has reached memory, each word is read as after the call.
 pub fn effects_lead_there()
     ensures { EffectsLeadThere }
+{}
+
+/// Once both descriptors of a detach with its flush are done, nothing cached is of the domain that the device had, be its pages live or
+/// retired, and no cached context is the device's.
+pub fn detaches_all_forget()
+    ensures { DetachesAllForget }
 {}

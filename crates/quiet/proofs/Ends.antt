@@ -49,7 +49,7 @@ nobody : (w : World) (d : ℕ) → IsStep w (calls.Drop d) Done → SomeIsAttach
 unfolding IsStep Stands
 nobody w d step some = step.0.1.0 (inl some)
 
-no_fault_left : (d : ℕ) (x : Descriptor) (fault : CachedFault) → x ≡ IotlbDomain d → fault.domain ≡ d → drops_fault x fault ≡ false → ⊥
+pub no_fault_left : (d : ℕ) (x : Descriptor) (fault : CachedFault) → x ≡ IotlbDomain d → fault.domain ≡ d → drops_fault x fault ≡ false → ⊥
 no_fault_left d x fault is here left =
     let kept : drops_fault (IotlbDomain d) fault ≡ false = ap (λ y. drops_fault y fault) (sym is) ∙ left in grind (arith, nat_tests)
 
