@@ -5,7 +5,7 @@ use Rattle.driven.specs.declared.effect.Half.{Half}
 use Rattle.driven.proofs.Brought.{for_memory}
 use Rattle.std.proofs.Common.{◌≡◌, ◌⊎◌, inl, inr, ℕ, Bool, Option, List, [], ◌∷◌, refl, subst, slice_set, sym}
 use Rattle.std.specs.List.{All}
-use Rattle.std.proofs.lemmas.List.Elements.{All-append}
+use Rattle.std.proofs.lemmas.List.Elements.{All-append, All-cons}
 use Rattle.dmatypes.specs.declared.call.Call.{Call}
 use Rattle.dmatypes.specs.declared.reply.Reply.{Reply}
 use Rattle.dmatypes.specs.declared.reply.Reply.TheVariants.{Refused}
@@ -19,11 +19,13 @@ use Rattle.driven.specs.declared.effect.Effect.TheVariants.{Barrier, Context}
 use Rattle.driven.specs.declared.untold.Untold.{Untold}
 use Rattle.driven.specs.declared.untold.Untold.TheVariants as untold
 use Rattle.driven.specs.Driven.{Tells}
-use Rattle.driven.specs.Effects.{AreEffects, BringsAll, IsBrought, IsForMemory, IsQuiet, Sends, in_order, waited}
+use Rattle.driven.specs.Effects.{AreEffects, BringsAll, IsBrought, IsForMemory, IsQuiet, Sends, StayInFrames, StaysInFrame, in_order}
+use Rattle.driven.specs.Effects.{waited}
 use Rattle.driven.specs.Laws.{MayChange}
 use Rattle.driven.specs.Telling.{IsSentBy, with_wait}
 use Rattle.driven.proofs.Brought.{brought_by, brought_either, none_brought, none_for_tables, one_for_tables}
 use Rattle.driven.proofs.Fills.{none_fill}
+use Rattle.driven.proofs.InFrames.{all_in_order, none_in_frames, sent_in_frames}
 use Rattle.driven.proofs.Sent.{IsSilent, silent}
 use Rattle.driven.proofs.Told.{nothing_in_order, one_entry, sent_part, whole_row, words_stay}
 
@@ -37,6 +39,10 @@ entry_for_memory t device first is =
     All-append (λ e. IsForMemory t e) (Context device first ∷ []) (Barrier ∷ [])
     (All-push (λ e. IsForMemory t e) [] (Context device first) (for_memory t [] none_for_tables) is)
     (for_memory t (Barrier ∷ []) (one_for_tables Barrier tt))
+
+pub entry_in_frames : (device : ℕ) (first : Half) → All StaysInFrame (entry_told device first)
+entry_in_frames device first =
+    All-cons StaysInFrame (Context device first) (Barrier ∷ []) tt (All-cons StaysInFrame Barrier [] tt none_in_frames)
 
 -- it brings no word
 no_word : (device : ℕ) (first : Half) (f k : ℕ) → IsBrought (entry_told device first) f k → ⊥
@@ -93,21 +99,25 @@ module _ (m t : State) (call : Call) (reply : Reply) (sound : IsSound m) (ticket
     brings = nothing row;
     sends = sends_none s;
     ordered = sym (nothing_in_order m call);
+    in_frames = λ other. none_in_frames;
   }
 
 -- ---- what is brought, and then sent
 
 module _ (m t : State) (call : Call) (reply : Reply) (tickets : KeepsTickets m) (does : Does m call reply t) where
-  pub asks : (waits : ℕ) (awaits : Bool) (brought more es : List Effect) → BringsAll m t brought → es ≡ in_order m call brought more
-      → waits ≡ m.iommu.sent → waited call t.iommu.sent ≡ with_wait awaits t.iommu.sent → IsSentBy t waits awaits more
-      → IsQuiet reply es → AreEffects m call reply t es
-  asks waits awaits brought more es brings is were by sent quiet = record {
+  pub asks : (waits : ℕ) (awaits : Bool) (brought more es : List Effect) → BringsAll m t brought → StayInFrames call brought
+      → es ≡ in_order m call brought more → waits ≡ m.iommu.sent → waited call t.iommu.sent ≡ with_wait awaits t.iommu.sent
+      → IsSentBy t waits awaits more → IsQuiet reply es → AreEffects m call reply t es
+  asks waits awaits brought more es brings fit is were by sent quiet = record {
     quiet = quiet;
     brought = brought;
     sent = more;
     brings = brings;
     sends = sent_part m t call reply tickets does awaits more by (subst (λ n. IsSentBy t n awaits more) were sent);
     ordered = is;
+    in_frames = λ other.
+        subst (λ xs. All StaysInFrame xs) (sym is)
+        (all_in_order StaysInFrame brought more (fit other) (sent_in_frames t waits awaits more sent) m call);
   }
 
 -- ---- what can be told where all is told

@@ -1,7 +1,7 @@
 -- What lists of effects bring.
 use Rattle.engine.specs.State.{State}
 use Rattle.driven.specs.declared.effect.Effect.TheVariants.{Await, Context, Send}
-use Rattle.driven.specs.Effects.{IsForMemory, IsForTables}
+use Rattle.driven.specs.Effects.{IsForFrames, IsForMemory}
 use Rattle.std.proofs.Common.{◌≡◌, ◌≢◌, ◌⊎◌, inl, inr, ⊎_elim, ℕ, ◌+◌, ◌-◌, ◌*◌, ◌/◌, ◌%◌}
 use Rattle.std.proofs.Common.{◌<◌, ◌≤◌, List, [], ◌∷◌, ◌++◌, Option, Some, None, refl, sym}
 use Rattle.std.proofs.Common.{ap, subst, ◌∙◌, arith, Bool, true, false}
@@ -10,7 +10,7 @@ use Rattle.std.specs.Option.{option_eq}
 use Rattle.std.specs.List.{All}
 use Rattle.std.proofs.lemmas.Bool.{cases_lt}
 use Rattle.std.proofs.lemmas.List.{append_assoc}
-use Rattle.std.proofs.lemmas.List.Elements.{All-append, All-push}
+use Rattle.std.proofs.lemmas.List.Elements.{All-append, All-cons, All-nil, All-push}
 use Rattle.std.proofs.lemmas.Option.{none-some, same_Some}
 use Rattle.dmatypes.specs.World.{IsIn}
 use Rattle.tables.specs.declared.entries.TheConstants.{TABLE_ENTRIES}
@@ -60,16 +60,27 @@ none_for_tables k d less = absurd (omega (arith, less))
 pub one_for_tables : (e : Effect) → IsForTables e → All IsForTables (e ∷ [])
 one_for_tables e h = All-push IsForTables [] e none_for_tables h
 
-of_tables : (t : State) (e : Effect) → IsForTables e → IsForMemory t e
-of_tables t (Words frame first count) h = tt
-of_tables t Barrier h = tt
-of_tables t (Context device first) h = absurd h
-of_tables t (Send low high) h = absurd h
-of_tables t (Await number) h = absurd h
+of_tables : (e : Effect) → IsForTables e → IsForFrames e
+of_tables (Words frame first count) h = tt
+of_tables Barrier h = tt
+of_tables (Context device first) h = absurd h
+of_tables (Send low high) h = absurd h
+of_tables (Await number) h = absurd h
+
+of_frames : (t : State) (e : Effect) → IsForFrames e → IsForMemory t e
+of_frames t (Words frame first count) h = tt
+of_frames t Barrier h = tt
+of_frames t (Context device first) h = absurd h
+of_frames t (Send low high) h = absurd h
+of_frames t (Await number) h = absurd h
+
+-- what is for table frames is for memory
+pub frames_for_memory : (t : State) (es : List Effect) → All IsForFrames es → All (λ e. IsForMemory t e) es
+frames_for_memory t es all k d less = of_frames t _ (all k d less)
 
 -- what is for tables is for memory
 pub for_memory : (t : State) (es : List Effect) → All IsForTables es → All (λ e. IsForMemory t e) es
-for_memory t es all k d less = of_tables t _ (all k d less)
+for_memory t es all k d less = of_frames t _ (of_tables _ (all k d less))
 
 -- all words of a table
 pub whole_table : (table : Option ℕ) (frame : ℕ) (e : Effect) → table ≡ Some frame → BringsPart frame 0 (TABLE_ENTRIES - 1) e
@@ -312,7 +323,7 @@ pub frames : (count frame : ℕ) (e : Effect) → frame ≡ 0 → e ≡ Words fr
 frames count frame e none is = record {
   ends = inr (e ∷ [], refl);
   for_memory =
-      All-append IsForTables (e ∷ []) (Barrier ∷ []) (one_for_tables e (subst IsForTables (sym is) tt)) (one_for_tables Barrier tt);
+      All-cons IsForFrames e (Barrier ∷ []) (subst IsForFrames (sym is) tt) (All-cons IsForFrames Barrier [] tt (All-nil IsForFrames));
   only = λ f k inside there.
       elim (brought_either (e ∷ []) (Barrier ∷ []) f k there) [
         | inl one ↦

@@ -35,6 +35,7 @@ use Rattle.driven.specs.Telling.{AreLeftOut, AreTablesOf, BringsMapped, BringsUn
 use Rattle.driven.proofs.Asked.{asks}
 use Rattle.driven.proofs.BringsAll.{there}
 use Rattle.driven.proofs.Cuts.{cuts}
+use Rattle.driven.proofs.InFrames.{tables_in_frames}
 use Rattle.driven.proofs.Spans.{OfPage, same_table}
 use Rattle.driven.proofs.Steady.{ended_stays}
 use Rattle.driven.proofs.Told.{has_sent, sends_nothing}
@@ -63,7 +64,8 @@ module _ (m t : State) (call : Call) (reply : Reply) (tickets : KeepsTickets m) 
       → (es : List Effect) → TellsMap t x es → AreEffects m call reply t es
   map_tells order by quiet brings es told =
       asks m t call reply tickets does x.waits true told.brought told.sent es
-      (brings told.brought (rw (of_domain, of_first, of_pages) at told.brings)) (told.in_order ∙ sym (order told.brought told.sent))
+      (brings told.brought (rw (of_domain, of_first, of_pages) at told.brings))
+      (λ other. tables_in_frames told.brought told.brings.for_memory) (told.in_order ∙ sym (order told.brought told.sent))
       waits by told.sends (quiet es)
 
 -- ---- tables as they were
@@ -264,6 +266,7 @@ module _ (m t : State) (d address pages released : ℕ) (sound : IsSound m)
           let (before, (were, brings)) = by x.lowest known told.lowest in
           asks m t (calls.Unmap d address pages) (Unmapped released) tickets does x.waits true told.brought told.sent es
           (unmap_brings m t d address pages released sound does last end before were told.brought brings)
+          (λ other. tables_in_frames told.brought told.brings.for_memory)
           (elim (none_or_some released) [
             | inl none ↦ told.in_order (of_released ∙ none)
                 ∙ sym (sends_last m t d address pages released sound does none told.brought told.sent

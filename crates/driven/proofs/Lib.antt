@@ -9,6 +9,7 @@ pub mod Brought
 pub mod Levels
 pub mod Spans
 pub mod Told
+pub mod InFrames
 pub mod Rows
 pub mod BringsAll
 pub mod Asked

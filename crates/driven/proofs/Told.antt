@@ -34,6 +34,7 @@ use Rattle.driven.specs.Telling.{HasSent, IsSentBy, with_wait}
 use Rattle.driven.proofs.Brought.{none_brought, none_for_tables}
 use Rattle.driven.proofs.Calls.{calls_change}
 use Rattle.driven.proofs.Fills.{same_fill}
+use Rattle.driven.proofs.InFrames.{none_in_frames}
 use Rattle.driven.proofs.Sent.{submits}
 
 -- ---- a refused call
@@ -102,6 +103,7 @@ refused m t call r does =
         submitted = ap (λ (x : State). submitted_in x.iommu.ring) is;
       });
       ordered = sym (nothing_in_order m call);
+      in_frames = λ other. none_in_frames;
     }
 
 -- ---- what was sent

@@ -1,5 +1,5 @@
 -- What is told of a call that changes tables brings all that it changed.
-use Rattle.driven.proofs.Brought.{for_memory}
+use Rattle.driven.proofs.Brought.{for_memory, frames_for_memory}
 use Rattle.std.proofs.Common.{◌≡◌, ◌≢◌, inl, inr, ⊎_elim, ℕ, suc, ◌+◌, ◌-◌, ◌/◌, ◌<◌, ◌≤◌, List, [], ◌∷◌, ◌++◌, Option, Some, refl, sym, ap}
 use Rattle.std.proofs.Common.{subst, ◌∙◌, arith, Bool, false, length}
 use Rattle.std.proofs.lemmas.Bool.{cases_lt}
@@ -252,7 +252,7 @@ module _ (m t : State) (d : ℕ) (sound : IsSound m) (does : Does m (calls.Drop 
 
   pub drop_brings : (es : List Effect) → BringsFrames t.pool.frames es → BringsAll m t es
   drop_brings es brings = record {
-    for_memory = for_memory t es brings.for_memory;
+    for_memory = frames_for_memory t es brings.for_memory;
     ends = brings.ends;
     inside = brings.only;
     words = drop_by does.becomes es brings;

@@ -41,8 +41,19 @@ abbrev pub IsBrought : List Effect → ℕ → ℕ → Type 0
 IsBrought effects f k = (effect : Effect) × (IsIn effect effects × Brings effect f k)
 
 -- words of table frames, or a barrier
+abbrev pub IsForFrames : Effect → Type 0
+IsForFrames (Words frame first count) = Unit {0}
+IsForFrames Barrier = Unit {0}
+IsForFrames effect = ⊥
+
+-- the words that it brings, if any, are of one table frame
+abbrev pub StaysInFrame : Effect → Type 0
+StaysInFrame (Words frame first count) = first + count ≤ TABLE_ENTRIES
+StaysInFrame effect = Unit {0}
+
+-- words of one table frame, or a barrier
 abbrev pub IsForTables : Effect → Type 0
-IsForTables (Words frame first count) = Unit {0}
+IsForTables (Words frame first count) = StaysInFrame (Words frame first count)
 IsForTables Barrier = Unit {0}
 IsForTables effect = ⊥
 
@@ -137,6 +148,10 @@ in_order m (calls.Drop domain) brought sent = sent ++ brought
 in_order m (calls.Unmap domain address pages) brought sent = in_mode (domain_at m.domains domain) brought sent
 in_order m call brought sent = brought ++ sent
 
+-- each of them stays in one table frame, but where the call is a drop, which brings the words of all frames at once
+abbrev pub StayInFrames : Call → List Effect → Type 0
+StayInFrames call effects = ((domain : ℕ) → call ≢ calls.Drop domain) → All (λ effect. StaysInFrame effect) effects
+
 abbrev pub IsQuiet : Reply → List Effect → Type 0
 IsQuiet (Refused refusal) effects = effects ≡ []
 IsQuiet reply effects = Unit {0}
@@ -149,6 +164,7 @@ pub record AreEffects (m : State) (call : Call) (reply : Reply) (t : State) (eff
   pub brings : BringsAll m t brought
   pub sends : Sends m call t sent
   pub ordered : effects ≡ in_order m call brought sent
+  pub in_frames : StayInFrames call effects
 
 -- ---- a detach, and a flush after it
 

@@ -14,7 +14,7 @@ use Rattle.engine.specs.State.{State}
 use Rattle.engine.specs.Walkable.{table_at}
 use Rattle.driven.specs.declared.effect.Effect.{Effect}
 use Rattle.driven.specs.declared.effect.Effect.TheVariants.{Await, Barrier}
-use Rattle.driven.specs.Effects.{Brings, EndInBarrier, IsBrought, IsForTables, IsSending}
+use Rattle.driven.specs.Effects.{Brings, EndInBarrier, IsBrought, IsForFrames, IsForTables, IsSending}
 
 -- in how many tables of a level the words of the pages from one to another can lie
 abbrev pub most_tables : ℕ → ℕ → ℕ → ℕ
@@ -145,7 +145,7 @@ pub record BringsUnmapped (pool : Pool) (h : Option Domain) (first last : ℕ) (
 -- all words of so many table frames, and no word of one after them
 pub record BringsFrames (frames : ℕ) (effects : List Effect) : Type 0 where
   pub ends : EndInBarrier effects
-  pub for_memory : All IsForTables effects
+  pub for_memory : All IsForFrames effects
   pub only : (f k : ℕ) → k < TABLE_ENTRIES → IsBrought effects f k → f < frames
   pub brings : (f k : ℕ) → f < frames → k < TABLE_ENTRIES → IsBrought effects f k
 

@@ -6,7 +6,7 @@ use dmatypes::Frame;
 #[derive(Clone, Copy, Debug, Default, PartialEq, Eq)]
 pub enum Effect {
     /// Bring these words to the memory that the unit reads, each by one store of 64 bits. They are `count` words from an index of a
-    /// table frame on, and over the frames after it where they are more than are left of it. `State::table_word` has them.
+    /// table frame on, and lie in that frame; those of a drop are more, and go on in the frames after it. `State::table_word` has them.
     Words {
         frame: Frame,
         first: u64,

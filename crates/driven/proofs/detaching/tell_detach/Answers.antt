@@ -8,7 +8,7 @@ use Rattle.dmatypes.specs.declared.reply.Reply.TheVariants.{Done}
 use Rattle.quiet.specs.Quiet.{IsSound}
 use Rattle.driven.specs.declared.effect.Effect.{Effect}
 use Rattle.driven.specs.declared.effect.Effect.TheVariants.{Barrier, Context}
-use Rattle.driven.proofs.Asked.{asks, entry_told, one_for_entry}
+use Rattle.driven.proofs.Asked.{asks, entry_in_frames, entry_told, one_for_entry}
 use Rattle.driven.proofs.Rows.{rows}
 use Rattle.driven.proofs.Told.{few_sent, has_sent, refused}
 use Rattle.driven.proofs.detaching.tell_detach.Goals as goal
@@ -44,5 +44,5 @@ returns-clause-effects c =
           c.in_ok-detach.ensures (λ f k no. no) c.args.device Low
           (detached_half c.args.state.now c.detach.new.self c.args.device c.in_ok-detach.ensures.becomes)
           (rows c.args.state.now c.detach.new.self (calls.Detach c.args.device) Done c.in_ok-detach.ensures.becomes))
-          refl c.waits-waits.ensures refl sent tt,
+          (λ other. entry_in_frames c.args.device Low) refl c.waits-waits.ensures refl sent tt,
     )

@@ -5,6 +5,7 @@ use Rattle.dmatypes.specs.declared.call.Call.TheVariants as calls
 use Rattle.dmatypes.specs.declared.reply.Reply.TheVariants.{Flushed}
 use Rattle.quiet.specs.Quiet.{IsSound}
 use Rattle.driven.proofs.Asked.{asks, nothing}
+use Rattle.driven.proofs.InFrames.{none_in_frames}
 use Rattle.driven.proofs.Rows.{rows}
 use Rattle.driven.proofs.Told.{has_sent, refused}
 use Rattle.driven.proofs.detaching.tell_flush.Goals as goal
@@ -36,5 +37,5 @@ returns-clause-effects c =
           c.keeps.ensures.tickets c.in_ok-released.ensures (λ f k no. no)
           (rows c.args.state.now c.flush.new.self (calls.Flush c.args.domain) (Flushed c.in_ok-released.released)
           c.in_ok-released.ensures.becomes))
-          refl c.waits-waits.ensures refl sent tt,
+          (λ other. none_in_frames) refl c.waits-waits.ensures refl sent tt,
     )

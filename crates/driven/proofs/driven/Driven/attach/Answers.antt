@@ -7,7 +7,7 @@ use Rattle.dmatypes.specs.declared.reply.Reply.TheVariants as replies
 use Rattle.quiet.specs.Quiet.{IsSound}
 use Rattle.driven.proofs.Rows.{rows}
 use Rattle.driven.proofs.Told.{refused}
-use Rattle.driven.proofs.Asked.{all_told, entry_told, one_for_entry, sends_none}
+use Rattle.driven.proofs.Asked.{all_told, entry_in_frames, entry_told, one_for_entry, sends_none}
 use Rattle.driven.proofs.driven.Driven.attach.Goals as goal
 
 pub returns-in_err-attach-clause-effects : goal.returns-in_err-attach-clause-effects
@@ -37,4 +37,5 @@ returns-clause-effects c =
           c.keeps.ensures.tickets c.in_ok-attach.ensures
           (λ f k no. no) tt;
       ordered = refl;
+      in_frames = λ other. entry_in_frames c.args.device High;
     }))

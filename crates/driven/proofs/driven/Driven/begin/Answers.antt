@@ -6,6 +6,7 @@ use Rattle.quiet.specs.Quiet.{IsSound}
 use Rattle.driven.proofs.Rows.{rows}
 use Rattle.driven.proofs.Told.{has_sent, refused}
 use Rattle.driven.proofs.Asked.{all_told, asks, nothing}
+use Rattle.driven.proofs.InFrames.{none_in_frames}
 use Rattle.driven.proofs.driven.Driven.begin.Goals as goal
 
 pub returns-in_err-number-clause-effects : goal.returns-in_err-number-clause-effects
@@ -34,4 +35,4 @@ returns-clause-effects c =
     c.in_ok-number.number) sound c.keeps.ensures.tickets c.in_ok-number.ensures
     (λ f k no. no) (rows c.deref_mut-state.result.now c.begin.new.self (calls.Begin c.args.domain) (replies.Ticket c.args.domain
     c.in_ok-number.number) c.in_ok-number.ensures.becomes))
-    (items ∙ ap (λ xs. xs ++ more) c.forget.ensures.told) c.waits-waits.ensures refl sent tt))
+    (λ other. none_in_frames) (items ∙ ap (λ xs. xs ++ more) c.forget.ensures.told) c.waits-waits.ensures refl sent tt))

@@ -1,4 +1,4 @@
-use Rattle.std.proofs.Common.{ℕ, [], Ok, Err, Result, refl, subst, sym}
+use Rattle.std.proofs.Common.{ℕ, [], Ok, Err, Result, subst, sym}
 use Rattle.dmatypes.specs.declared.call.Call.TheVariants as calls
 use Rattle.dmatypes.specs.declared.call.Mode.{Mode}
 use Rattle.dmatypes.specs.declared.refusal.Refusal.{Refusal}
@@ -9,7 +9,7 @@ use Rattle.engine.specs.Steps.{Does}
 use Rattle.engine.specs.Tickets.{KeepsTickets}
 use Rattle.quiet.specs.Quiet.{IsSound}
 use Rattle.driven.specs.Effects.{AreEffects}
-use Rattle.driven.proofs.Asked.{all_told, nothing, sends_none}
+use Rattle.driven.proofs.Asked.{all_told, asks_nothing}
 use Rattle.driven.proofs.Rows.{rows}
 use Rattle.driven.proofs.Told.{refused}
 use Rattle.driven.proofs.driven.Driven.domain.Goals as goal
@@ -18,14 +18,7 @@ asked : (m t : State) (mode : Mode) (width : Width) (r : Result ℕ Refusal) →
     → Does m (calls.Domain mode width) (made_reply r) t → AreEffects m (calls.Domain mode width) (made_reply r) t []
 asked m t mode width (Ok d) sound tickets does =
     let call = calls.Domain mode width in
-    record {
-      quiet = tt;
-      brought = [];
-      sent = [];
-      brings = nothing m t call (Made d) sound tickets does (λ f k no. no) (rows m t call (Made d) does.becomes);
-      sends = sends_none m t call (Made d) sound tickets does (λ f k no. no) tt;
-      ordered = refl;
-    }
+    asks_nothing m t call (Made d) sound tickets does (λ f k no. no) tt (rows m t call (Made d) does.becomes)
 asked m t mode width (Err r) sound tickets does = refused m t (calls.Domain mode width) r does
 
 pub returns-clause-effects : goal.returns-clause-effects

@@ -33,4 +33,5 @@ returns-clause-effects c =
     c.in_ok-drop_domain.ensures
     c.waits-waits.result true es more c.bring_frames.new.effects.items
     (drop_brings c.deref_mut-state.result.now c.drop_domain.new.self c.args.domain sound c.in_ok-drop_domain.ensures es brings)
+    (λ other. absurd (other c.args.domain refl))
     (items' ∙ ap (λ xs. xs ++ es) (items ∙ ap (λ xs. xs ++ more) c.forget.ensures.told)) c.waits-waits.ensures refl sent tt))

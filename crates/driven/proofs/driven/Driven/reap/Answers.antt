@@ -1,4 +1,4 @@
-use Rattle.std.proofs.Common.{ℕ, [], None, Some, Ok, Err, Option, Result, refl}
+use Rattle.std.proofs.Common.{ℕ, [], None, Some, Ok, Err, Option, Result}
 use Rattle.dmatypes.specs.declared.call.Call.TheVariants as calls
 use Rattle.dmatypes.specs.declared.refusal.Refusal.{Refusal}
 use Rattle.dmatypes.specs.declared.reply.Reply.{Reply}
@@ -7,27 +7,21 @@ use Rattle.engine.specs.State.{State, reaped_reply}
 use Rattle.engine.specs.Steps.{Does}
 use Rattle.engine.specs.Tickets.{KeepsTickets}
 use Rattle.quiet.specs.Quiet.{IsSound}
-use Rattle.driven.specs.Effects.{AreEffects, IsQuiet}
-use Rattle.driven.proofs.Asked.{all_told, nothing, sends_none}
+use Rattle.driven.specs.Effects.{AreEffects}
+use Rattle.driven.proofs.Asked.{all_told, asks_nothing}
 use Rattle.driven.proofs.Rows.{rows}
 use Rattle.driven.proofs.Told.{refused}
 use Rattle.driven.proofs.driven.Driven.reap.Goals as goal
 
-answered : (m t : State) (d n : ℕ) (reply : Reply) → IsQuiet reply [] → IsSound m → KeepsTickets m
-    → Does m (calls.Reap d n) reply t → AreEffects m (calls.Reap d n) reply t []
-answered m t d n reply quiet sound tickets does = record {
-  quiet = quiet;
-  brought = [];
-  sent = [];
-  brings = nothing m t (calls.Reap d n) reply sound tickets does (λ f k no. no) (rows m t (calls.Reap d n) reply does.becomes);
-  sends = sends_none m t (calls.Reap d n) reply sound tickets does (λ f k no. no) tt;
-  ordered = refl;
-}
+answered : (m t : State) (d n : ℕ) (reply : Reply) → IsSound m → KeepsTickets m → Does m (calls.Reap d n) reply t
+    → AreEffects m (calls.Reap d n) reply t []
+answered m t d n reply sound tickets does =
+    asks_nothing m t (calls.Reap d n) reply sound tickets does (λ f k no. no) tt (rows m t (calls.Reap d n) reply does.becomes)
 
 asked : (m t : State) (d n : ℕ) (r : Result (Option ℕ) Refusal) → IsSound m → KeepsTickets m
     → Does m (calls.Reap d n) (reaped_reply r) t → AreEffects m (calls.Reap d n) (reaped_reply r) t []
-asked m t d n (Ok (Some k)) sound tickets does = answered m t d n (replies.Reaped k) tt sound tickets does
-asked m t d n (Ok None) sound tickets does = answered m t d n replies.Pending tt sound tickets does
+asked m t d n (Ok (Some k)) sound tickets does = answered m t d n (replies.Reaped k) sound tickets does
+asked m t d n (Ok None) sound tickets does = answered m t d n replies.Pending sound tickets does
 asked m t d n (Err r) sound tickets does = refused m t (calls.Reap d n) r does
 
 pub returns-clause-effects : goal.returns-clause-effects
