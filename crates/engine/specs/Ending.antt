@@ -24,7 +24,7 @@ use Rattle.tables.specs.Changes.{IsApart, KeepsSpellings, TakesAndGivesFrames, T
 use Rattle.tables.specs.Lacks.{leaves_splitting}
 use Rattle.tables.specs.Pool.{Pool, memory, occurs, word, IsPool, IsTree, IsZeroed}
 use Rattle.tables.specs.Tree.{uses}
-use Rattle.tables.specs.Trail.{WritesInOrder}
+use Rattle.tables.specs.Trail.{EndsInOrder, WritesInOrder}
 use Rattle.tables.specs.Cut.{Cut}
 use Rattle.unit.specs.Caches.{Caches}
 use Rattle.unit.specs.Filters.{left_by}
@@ -247,7 +247,8 @@ pub record Reaps (pool : Pool) (old : Domain) (number : ℕ) (pool' : Pool) (new
   pub releases : ReleasesAll pool old.space (filter (was_before number) old.records) pool' new.space
   pub same : new ≡ record old { space = new.space; records = filter (λ r. not (was_before number r)) old.records }
 
--- the tree of a root is gone: its frames are free and zeroed, and no other tree changed
+-- the tree of a root is gone: its frames are free and zeroed, none of them before the word that named it was cleared, and no other tree
+-- changed
 pub record Destroys (pool : Pool) (width : Width) (root : ℕ) (pool' : Pool) : Type 0 where
   pub free : (f : ℕ) → occurs f pool'.free ≡ occurs f pool.free + uses (memory pool.words) (levels width) root f
   pub words : (f k : ℕ) → k < SPAN_PAGES → uses (memory pool.words) (levels width) root f ≡ 0
@@ -256,6 +257,7 @@ pub record Destroys (pool : Pool) (width : Width) (root : ℕ) (pool' : Pool) : 
       → TreeStays pool pool' level table
   pub frames : pool'.frames ≡ pool.frames
   pub is_pool : IsPool pool'
+  pub order : EndsInOrder pool pool' (levels width) root
 
 -- a domain ends: all records are flushed, and then its tree goes
 pub record Closes (old : Operands) (id : ℕ) (pool' : Pool) (iommu' : Iommu) : Type 0 where
