@@ -1,5 +1,6 @@
 pub mod Pieces
 pub mod Tree
+pub mod Lending
 pub mod Way
 pub mod Search
 pub mod Laid

@@ -68,13 +68,22 @@ fork false key piece near far = Fork key piece far near
 abbrev pub top_of : Shape → Top
 top_of t = record { root = root_of t; height = height_of t; longest = longest_of t }
 
--- the tree that a node is the root of
+-- the greatest length of a free piece in the tree that a node is the root of
+abbrev pub longest_at : Node → ℕ
+longest_at node = max (free_pages node.piece) (max node.left.longest node.right.longest)
+
+-- that tree
 abbrev pub tree_at : ℕ → Node → Top
 tree_at key node = record {
   root = Some key;
   height = 1 + max node.left.height node.right.height;
-  longest = max (free_pages node.piece) (max node.left.longest node.right.longest);
+  longest = longest_at node;
 }
+
+-- the node with another tree on a side
+abbrev pub with_child : (before : Bool) → Node → Top → Node
+with_child true node tree = record node { left = tree }
+with_child false node tree = record node { right = tree }
 
 -- the node of a piece between two trees
 abbrev pub joint : Piece → Top → Top → Node

@@ -5,9 +5,9 @@ ghost use Rattle.slab.specs.Slab.{get, slab_len};
 ghost use Rattle.slab.specs.Slab as slabs;
 ghost use Rattle.piece_tree.specs.Pieces.{IsPiece};
 ghost use Rattle.piece_tree.specs.Graft.{Adds, IsTree, Makes, Parted, some_of};
-ghost use Rattle.piece_tree.specs.Tree.{AreNear, AreParts, CanHang, Empty, Joins, KeepsCount, Shape, height_of, items};
+ghost use Rattle.piece_tree.specs.Tree.{AreNear, AreParts, CanHang, Empty, Joins, KeepsCount, Shape, height_of, items, root_of, top_of};
 
-use crate::links::{link, open, set_child};
+use crate::links::{link, open};
 use crate::node::{NO_TREE, Node, Top};
 use crate::piece::{MOST_PIECES, Piece};
 use crate::turn::turn;
@@ -65,6 +65,7 @@ pub(crate) fn graft(
 }
 
 // The same, where the first is the higher one, or lower by one.
+#[inline(never)]
 fn graft_onto(
     nodes: &mut Slab<Node>,
     before: bool,
@@ -129,32 +130,33 @@ pub(crate) fn regraft(nodes: &mut Slab<Node>, before: bool, key: usize, tree: To
         → Joins (get nodes.old) (get nodes.new) before result key piece n f }
     ensures count { KeepsCount nodes.old nodes.new }
 {
-    let node = &nodes[key];
-    let other = node.child(!before);
-    if tree.height > other.height + 1 || other.height > tree.height + 1 {
+    let node = &mut nodes[key];
+    *node.child_mut(before) = tree;
+    if node.left.height.abs_diff(node.right.height) > 1 {
         let piece = node.piece;
+        let other = node.child(!before);
         return graft(nodes, before, tree, key, piece, other);
     }
-    set_child(nodes, before, key, tree)
+    node.tree(key)
 }
 
-// Adds a piece right behind a tree, or right before it.
-fn add_end(nodes: &mut Slab<Node>, before: bool, tree: Top, piece: Piece) -> Top
-    requires tree { (t : Shape) × IsTree (get nodes.old) tree t × (length (items t) < MOST_PIECES) }
+// Adds a piece right behind the tree at a key, or right before it.
+#[cycle(add)]
+fn add_end(nodes: &mut Slab<Node>, before: bool, key: usize, piece: Piece) -> Top
+    requires tree { (t : Shape) × IsTree (get nodes.old) (top_of t) t × (root_of t ≡ Some key) × (length (items t) < MOST_PIECES) }
     requires piece { IsPiece piece }
     requires room { slab_len nodes.old < nodes.old.capacity }
-    ensures { (t : Shape) → IsTree (get nodes.old) tree t → Adds nodes.old nodes.new before result t (Some piece) }
+    ensures { (t : Shape) → IsTree (get nodes.old) (top_of t) t → root_of t ≡ Some key
+        → Adds nodes.old nodes.new before result t (Some piece) }
 {
-    let Some(key) = tree.root else {
-        return leaf(nodes, piece);
-    };
     let opened = open(nodes, before, key);
-    let far = add_end(nodes, before, opened.far, piece);
+    let far = add(nodes, before, opened.far, Some(piece));
     regraft(nodes, !before, key, far)
 }
 
-/// The same, if there is a piece.
+/// Adds a piece, if there is one, right behind a tree or right before it.
 #[inline(always)]
+#[cycle(add)]
 pub(crate) fn add(nodes: &mut Slab<Node>, before: bool, tree: Top, piece: Option<Piece>) -> Top
     requires tree { (t : Shape) × IsTree (get nodes.old) tree t × (length (items t) < MOST_PIECES) }
     requires piece { IfSome piece IsPiece }
@@ -162,5 +164,8 @@ pub(crate) fn add(nodes: &mut Slab<Node>, before: bool, tree: Top, piece: Option
     ensures { (t : Shape) → IsTree (get nodes.old) tree t → Adds nodes.old nodes.new before result t piece }
 {
     let Some(piece) = piece else { return tree };
-    add_end(nodes, before, tree, piece)
+    let Some(key) = tree.root else {
+        return leaf(nodes, piece);
+    };
+    add_end(nodes, before, key, piece)
 }

@@ -1,6 +1,6 @@
 //! Pieces put over others of a tree: what is there goes, and what is left of it stays on both sides.
 
-ghost use Rattle.std.specs.Prelude.{ℕ, ◌≡◌, ◌+◌, ◌≤◌, true, false, List, IfSome, length};
+ghost use Rattle.std.specs.Prelude.{ℕ, ◌≡◌, ◌+◌, ◌≤◌, true, false, List, IfSome, Some, length};
 ghost use Rattle.std.specs.List.{AllByRecursion};
 ghost use Rattle.slab.specs.Slab.{get, slab_len};
 ghost use Rattle.piece_tree.specs.Graft.{CanKeep, CanReplace, Flanked, IsLeastHeight, IsTree, LiesBeside, LiesOff, Makes, Removes, some_of};
@@ -22,15 +22,27 @@ pub(crate) struct Flanks {
     pub(crate) behind: Top,
 }
 
+// Takes all pieces of the tree at a key out.
+#[cycle(remove_below)]
+fn remove_at(nodes: &mut Slab<Node>, key: usize)
+    requires { (t : Shape) × IsBelow (get nodes.old) (Some key) t × ((k : ℕ) → uses t k ≤ 1) }
+    ensures { (t : Shape) → IsBelow (get nodes.old) (Some key) t → ((k : ℕ) → uses t k ≤ 1) → Removes nodes.old nodes.new t }
+{
+    let node = nodes.remove(key);
+    remove_below(nodes, node.left.root);
+    remove_below(nodes, node.right.root);
+}
+
 /// Takes all pieces of a tree out.
+#[inline(always)]
+#[cycle(remove_below)]
 pub(crate) fn remove_below(nodes: &mut Slab<Node>, root: Option<usize>)
     requires { (t : Shape) × IsBelow (get nodes.old) root t × ((k : ℕ) → uses t k ≤ 1) }
     ensures { (t : Shape) → IsBelow (get nodes.old) root t → ((k : ℕ) → uses t k ≤ 1) → Removes nodes.old nodes.new t }
 {
-    let Some(key) = root else { return };
-    let node = nodes.remove(key);
-    remove_below(nodes, node.left.root);
-    remove_below(nodes, node.right.root);
+    if let Some(key) = root {
+        remove_at(nodes, key);
+    }
 }
 
 /// Makes a tree of pieces: the middle one is its root.

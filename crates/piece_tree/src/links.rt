@@ -4,8 +4,7 @@ ghost use Rattle.std.specs.Prelude.{◌≡◌, IsSome, Some, max};
 ghost use Rattle.slab.specs.Slab.{Updates, get};
 ghost use Rattle.piece_tree.specs.Pieces.{IsPiece};
 ghost use Rattle.piece_tree.specs.declared.node.Node.{Node};
-ghost use Rattle.piece_tree.specs.Tree.{AreNear, AreParts, CanHang, CanShow, IsBelow, KeepsCount, Links, Opens, Shape, fork, free_pages};
-ghost use Rattle.piece_tree.specs.Tree.{longest_of, top_of};
+ghost use Rattle.piece_tree.specs.Tree.{AreNear, AreParts, IsBelow, KeepsCount, Links, Opens, Shape, free_pages};
 
 use crate::node::{Node, Opened, Top};
 use crate::piece::Piece;
@@ -69,57 +68,5 @@ pub(crate) fn set_piece(nodes: &mut Slab<Node>, key: usize, piece: Piece) -> u64
 {
     let node = &mut nodes[key];
     node.piece = piece;
-    let below = node.left.longest.max(node.right.longest);
-    free_length(piece).max(below)
-}
-
-/// Puts another tree on a side of a key.
-#[inline(always)]
-pub(crate) fn set_child(nodes: &mut Slab<Node>, before: bool, key: usize, tree: Top) -> Top
-    requires { (piece : Piece) × (was : Shape) × (n : Shape) × (f : Shape) × CanHang (get nodes.old) before key tree piece was n f
-        × AreNear n f }
-    ensures links { (piece : Piece) (was n f : Shape) → CanHang (get nodes.old) before key tree piece was n f → AreNear n f
-        → Links (get nodes.old) (get nodes.new) before result key piece n f }
-    ensures count { KeepsCount nodes.old nodes.new }
-{
-    let node = &mut nodes[key];
-    if before {
-        node.left = tree;
-    } else {
-        node.right = tree;
-    }
-    node.tree(key)
-}
-
-/// How much was longest from a key down, and how much is now.
-#[derive(Clone, Copy)]
-pub(crate) struct Longest {
-    pub(crate) was: u64,
-    pub(crate) now: u64,
-}
-
-/// Writes how much is longest in the tree on a side of a key, which has the root and the height that it had.
-#[inline(always)]
-pub(crate) fn set_longest(nodes: &mut Slab<Node>, before: bool, key: usize, longest: u64) -> Longest
-    requires { (piece : Piece) × (was : Shape) × (n : Shape) × (f : Shape) × CanShow (get nodes.old) before key longest piece was n f }
-    ensures links { (piece : Piece) (was n f : Shape) → CanShow (get nodes.old) before key longest piece was n f
-        → Links (get nodes.old) (get nodes.new) before (top_of (fork before key piece n f)) key piece n f }
-    ensures was { (piece : Piece) (was n f : Shape) → CanShow (get nodes.old) before key longest piece was n f
-        → result.was ≡ longest_of (fork before key piece was f) }
-    ensures now { (piece : Piece) (was n f : Shape) → CanShow (get nodes.old) before key longest piece was n f
-        → result.now ≡ longest_of (fork before key piece n f) }
-    ensures count { KeepsCount nodes.old nodes.new }
-{
-    let node = &mut nodes[key];
-    let least = free_length(node.piece).max(node.child(!before).longest);
-    let was = least.max(node.child(before).longest);
-    if before {
-        node.left.longest = longest;
-    } else {
-        node.right.longest = longest;
-    }
-    Longest {
-        was,
-        now: least.max(longest),
-    }
+    node.longest()
 }

@@ -1,8 +1,10 @@
 //! Nodes of the tree of pieces.
 
+ghost use Rattle.std.specs.Borrow.{sem};
 ghost use Rattle.std.specs.Prelude.{◌≡◌, ◌<◌, ◌↔◌, IsTrue, true, false};
+ghost use Rattle.piece_tree.specs.Lending.{LendsChild};
 ghost use Rattle.piece_tree.specs.Pieces.{IsPiece};
-ghost use Rattle.piece_tree.specs.Tree.{joint_at, tree_at};
+ghost use Rattle.piece_tree.specs.Tree.{joint_at, longest_at, tree_at};
 
 use crate::links::free_length;
 use crate::piece::Piece;
@@ -71,6 +73,30 @@ impl Node {
         *child
     }
 
+    /// The same, to be written.
+    #[inline(always)]
+    pub(crate) fn child_mut(&mut self, before: bool) -> &mut Top
+        ensures* lends { sem 𝓛 (LendsChild before self.entry result) }
+        ensures before { before ≡ true → result.now ≡ self.old.left }
+        ensures behind { before ≡ false → result.now ≡ self.old.right }
+    {
+        if before {
+            &mut self.left
+        } else {
+            &mut self.right
+        }
+    }
+
+    /// How many pages the longest free piece has, of its own one and of those in its two trees.
+    #[inline(always)]
+    pub(crate) fn longest(&self) -> u64
+        requires { IsPiece self.now.piece }
+        ensures { result ≡ longest_at self.now }
+    {
+        let below = self.left.longest.max(self.right.longest);
+        free_length(self.piece).max(below)
+    }
+
     /// The tree that it is the root of, under its key.
     #[inline(always)]
     pub(crate) fn tree(&self, key: usize) -> Top
@@ -79,11 +105,10 @@ impl Node {
         requires right { self.now.right.height < 1000 }
         ensures { result ≡ tree_at key self.now }
     {
-        let below = self.left.longest.max(self.right.longest);
         Top {
             root: Some(key),
             height: 1 + self.left.height.max(self.right.height),
-            longest: free_length(self.piece).max(below),
+            longest: self.longest(),
         }
     }
 }

@@ -7,7 +7,6 @@ ghost use Rattle.piece_tree.specs.Tree.{IsWhole, KeepsCount, Shape};
 ghost use Rattle.piece_tree.specs.Way.{Above, AreSteps, CanLift, CanMend, GoesOn, IsAtHand, IsStepAbove, Leads, Mends};
 
 use crate::grafts::regraft;
-use crate::links::set_longest;
 use crate::node::{Node, Top};
 use slab::Slab;
 
@@ -114,6 +113,7 @@ pub(crate) fn step_above(way: &[Step; MOST_HEIGHT], steps: usize, before: bool) 
 
 /// Brings a tree up to date from the end of a way on, where another tree lies now. From the first key on that has one with its root and
 /// height there, only what is longest changes.
+#[inline(always)]
 pub(crate) fn mend(
     nodes: &mut Slab<Node>,
     way: &[Step; MOST_HEIGHT],
@@ -140,7 +140,8 @@ pub(crate) fn mend(
 }
 
 /// Brings a tree up to date from the end of a way on, where the tree has the root and the height that it had, and what is longest there is
-/// so long now. It goes up to the first key from which on down as much is longest as it was.
+/// so long now. It goes up to the first key that shows just so much there already.
+#[inline(always)]
 pub(crate) fn lift(
     nodes: &mut Slab<Node>,
     way: &[Step; MOST_HEIGHT],
@@ -158,11 +159,13 @@ pub(crate) fn lift(
     while depth > 0 {
         depth -= 1;
         let step = way[depth];
-        let below = set_longest(nodes, step.before, step.key, now);
-        if below.now == below.was {
+        let node = &mut nodes[step.key];
+        let child = node.child_mut(step.before);
+        if child.longest == now {
             return root;
         }
-        now = below.now;
+        child.longest = now;
+        now = node.longest();
     }
     Top {
         longest: now,

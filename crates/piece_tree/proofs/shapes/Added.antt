@@ -9,7 +9,7 @@ use Rattle.piece_tree.specs.declared.node.Node.{Node}
 use Rattle.piece_tree.specs.declared.node.Opened.{Opened}
 use Rattle.piece_tree.specs.declared.node.Top.{Top}
 use Rattle.piece_tree.specs.Graft.{Adds, IsTree, Makes, side_by_side}
-use Rattle.piece_tree.specs.Tree.{Look, Shape, Empty, items, height_of, root_of, fork, AreNear, Joins, KeepsCount, Opens}
+use Rattle.piece_tree.specs.Tree.{Look, Shape, Empty, items, height_of, root_of, top_of, fork, AreNear, Joins, KeepsCount, Opens}
 use Rattle.piece_tree.proofs.shapes.Beside.{none_empty}
 use Rattle.piece_tree.proofs.shapes.Forks.{fork-height, opened-by, opened-height}
 use Rattle.piece_tree.proofs.shapes.Halved.{halved-side, opened-half, opened-long}
@@ -37,14 +37,16 @@ adds-none b {t = t} is = record {
 
 -- ---- a piece
 
--- of a top there is one tree alone, as far as its pieces go
-pub same_length : {look : Look} {top : Top} {s t : Shape} → IsTree look top s → IsTree look top t → length (items s) ≡ length (items t)
-same_length {look} {top} {s} {t} x y =
+pub own_top : {look : Look} {top : Top} {t : Shape} → IsTree look top t → IsTree look (top_of t) t
+own_top i = record { is = refl; stands = i.stands; once = i.once; few = i.few }
+
+-- at a root there is one tree alone, as far as its pieces go
+pub same_length : {look : Look} {near far : Top} {s t : Shape} → IsTree look near s → IsTree look far t → root_of s ≡ root_of t
+    → length (items s) ≡ length (items t)
+same_length {look} {near} {far} {s} {t} x y e =
     let a = low_tree look s x.stands x.few in
     let b = low_tree look t y.stands y.few in
-    let h = ap (λ (v : Top). v.root) x.is in
-    let g = ap (λ (v : Top). v.root) y.is in
-    ap length (sym (contents_is look 14 top.root s h x.stands a) ∙ contents_is look 14 top.root t g y.stands b)
+    ap length (sym (contents_is look 14 (root_of s) s refl x.stands a) ∙ contents_is look 14 (root_of s) t e y.stands b)
 
 -- no tree
 pub adds-leaf : {old new : Slab Node} (b : Bool) {tree top : Top} {t : Shape} {p : Piece} → IsTree (get old) tree t → root_of t ≡ None

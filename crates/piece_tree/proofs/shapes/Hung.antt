@@ -1,12 +1,14 @@
 -- A tree hung on a side of a key, where another one was.
 use Rattle.std.proofs.Common.{◌≡◌, ℕ, Bool, true, false, Some, refl, ap, sym, ◌∙◌, subst, arith}
-use Rattle.std.specs.Prelude.{not}
+use Rattle.std.specs.Int.{abs_diff}
+use Rattle.std.specs.Prelude.{◌≤◌, not}
+use Rattle.slab.specs.Slab.{Slab, Updates, get}
 use Rattle.piece_tree.specs.declared.piece.Piece.{Piece}
 use Rattle.piece_tree.specs.declared.node.Node.{Node}
 use Rattle.piece_tree.specs.declared.node.Top.{Top}
-use Rattle.piece_tree.specs.Tree.{Look, Shape, items, height_of, longest_of, one, fork, root_of, top_of}
-use Rattle.piece_tree.specs.Tree.{joint_at, AreParts, CanHang, Links, Joins}
-use Rattle.piece_tree.proofs.shapes.Forks.{fork-height, fork-uses, is_there, one-same}
+use Rattle.piece_tree.specs.Tree.{Look, Shape, items, height_of, longest_of, one, uses, fork, root_of, top_of, tree_at, with_child}
+use Rattle.piece_tree.specs.Tree.{joint_at, AreNear, AreParts, CanHang, Links, Joins, Stands}
+use Rattle.piece_tree.proofs.shapes.Forks.{differs, fork-height, fork-uses, is_there, linked, one-same, same_stands}
 
 -- the same from the other side
 pub fork-flip : (b : Bool) (key : ℕ) (p : Piece) (n f : Shape) → fork (not b) key p f n ≡ fork b key p n f
@@ -72,13 +74,6 @@ module _ (look : Look) (b : Bool) (key : ℕ) (tree : Top) (piece : Piece) (was 
   node_is : node ≡ joint_at b piece (top_of was) (top_of f)
   node_is = let a = h.here in cc
 
-  pub piece_is : node.piece ≡ piece
-  piece_is = ap (λ (x : Node). x.piece) node_is ∙ same b
-    where
-      same : (b : Bool) → (joint_at b piece (top_of was) (top_of f)).piece ≡ piece
-      same true = refl
-      same false = refl
-
   -- what a side shows
   pub hung-on : (r : Top) → (b ≡ true → r ≡ node.left) → (b ≡ false → r ≡ node.right) → r ≡ top_of was
   hung-on r on off = go b on off node_is
@@ -88,18 +83,25 @@ module _ (look : Look) (b : Bool) (key : ℕ) (tree : Top) (piece : Piece) (was 
       go true on off is = on refl ∙ ap (λ (x : Node). x.left) is
       go false on off is = off refl ∙ ap (λ (x : Node). x.right) is
 
-  pub hung-other : (r : Top) → (not b ≡ true → r ≡ node.left) → (not b ≡ false → r ≡ node.right) → r ≡ top_of f
-  hung-other r on off = go b on off node_is
+  -- the node with another tree on that side
+  pub hung-made : (new : Top) → with_child b node new ≡ joint_at b piece new (top_of f)
+  hung-made new = go b node_is
     where
-      go : (b : Bool) → (not b ≡ true → r ≡ node.left) → (not b ≡ false → r ≡ node.right)
-          → node ≡ joint_at b piece (top_of was) (top_of f) → r ≡ top_of f
-      go true on off is = off refl ∙ ap (λ (x : Node). x.right) is
-      go false on off is = on refl ∙ ap (λ (x : Node). x.left) is
+      go : (b : Bool) → node ≡ joint_at b piece (top_of was) (top_of f) → with_child b node new ≡ joint_at b piece new (top_of f)
+      go true is = ap (λ (x : Node). record x { left = new }) is
+      go false is = ap (λ (x : Node). record x { right = new }) is
 
-  pub hung-parts : (other : Top) → other ≡ top_of f → AreParts look tree key other n f
-  hung-parts other i = record {
+  pub hung-piece : (new : Top) → (with_child b node new).piece ≡ piece
+  hung-piece new = ap (λ (x : Node). x.piece) (hung-made new) ∙ same b
+    where
+      same : (b : Bool) → (joint_at b piece new (top_of f)).piece ≡ piece
+      same true = refl
+      same false = refl
+
+  pub hung-here : AreParts look tree key (top_of f) n f
+  hung-here = record {
     near_is = h.tree_is;
-    far_is = i;
+    far_is = refl;
     near_stands = h.stands;
     far_stands = h.beside;
     here = is_there _ _ e;
@@ -107,45 +109,68 @@ module _ (look : Look) (b : Bool) (key : ℕ) (tree : Top) (piece : Piece) (was 
     low = h.low;
   }
 
+-- and once it is written
+module _ (old new : Slab Node) (b : Bool) (key : ℕ) (tree : Top) (piece : Piece) (was n f : Shape)
+    (h : CanHang (get old) b key tree piece was n f) (node : Node) (e : get old key ≡ Some node)
+    (u : Updates old new key (Some (with_child b node tree))) where
+  made : with_child b node tree ≡ joint_at b piece tree (top_of f)
+  made = hung-made (get old) b key tree piece was n f h node e tree
+
+  stays : (t : Shape) → uses t key ≡ 0 → Stands (get old) t → Stands (get new) t
+  stays t z s = same_stands (get old) (get new) t s (λ k g. u.others k (differs key k t z g))
+
+  pub hung-parts : (other : Top) → (not b ≡ true → other ≡ (with_child b node tree).left)
+      → (not b ≡ false → other ≡ (with_child b node tree).right) → AreParts (get new) tree key other n f
+  hung-parts other on off =
+      let own = one-same key in
+      record {
+        near_is = h.tree_is;
+        far_is = go b on off made;
+        near_stands = stays n (omega (arith, h.once key)) h.stands;
+        far_stands = stays f (omega (arith, h.once key)) h.beside;
+        here = is_there _ _ u.changed;
+        once = h.once;
+        low = h.low;
+      }
+    where
+      go : (b : Bool) → (not b ≡ true → other ≡ (with_child b node tree).left)
+          → (not b ≡ false → other ≡ (with_child b node tree).right)
+          → with_child b node tree ≡ joint_at b piece tree (top_of f) → other ≡ top_of f
+      go true on off is = off refl ∙ ap (λ (x : Node). x.right) is
+      go false on off is = on refl ∙ ap (λ (x : Node). x.left) is
+
   -- by turns
-  pub hung-joins : (new : Look) (top : Top) → Joins look new b top key node.piece n f → Joins look new b top key piece n f
-  hung-joins new top j = subst (λ q. Joins look new b top key q n f) piece_is j
+  pub hung-joins : (then : Look) (top : Top) → Joins (get new) then b top key (with_child b node tree).piece n f
+      → Joins (get old) then b top key piece n f
+  hung-joins then top j =
+      let own = one-same key in
+      let same = hung-piece (get old) b key tree piece was n f h node e tree in
+      let x : Joins (get new) then b top key piece n f = subst (λ q. Joins (get new) then b top key q n f) same j in
+      record {
+        shape = x.shape;
+        is = x.is;
+        stands = x.stands;
+        all = x.all;
+        keys = x.keys;
+        others = λ k z. x.others k z ∙ u.others k (λ d. let it : one key k ≡ one key key = ap (one key) d in absurd (omega arith));
+        tall = x.tall;
+        short = x.short;
+        plain = x.plain;
+      }
 
-  -- the node with the tree on that side
-  pub hung-left : b ≡ true → record node { left = tree } ≡ joint_at b piece tree (top_of f)
-  hung-left e = go b e node_is
-    where
-      go : (b : Bool) → b ≡ true → node ≡ joint_at b piece (top_of was) (top_of f)
-          → record node { left = tree } ≡ joint_at b piece tree (top_of f)
-      go true e is = ap (λ (x : Node). record x { left = tree }) is
-      go false e is = absurd (cc)
+  -- as they are
+  pub hung-links : AreNear n f → Links (get old) (get new) b (tree_at key (with_child b node tree)) key piece n f
+  hung-links near =
+      linked old new b tree (top_of f) key piece n f (with_child b node tree)
+      (hung-here (get old) b key tree piece was n f h node e) h.fine near made u
 
-  pub hung-right : b ≡ false → record node { right = tree } ≡ joint_at b piece tree (top_of f)
-  hung-right e = go b e node_is
+  pub hung-near : abs_diff (with_child b node tree).left.height (with_child b node tree).right.height ≤ 1 → AreNear n f
+  hung-near d = go b (subst (λ (x : Node). abs_diff x.left.height x.right.height ≤ 1) made d)
     where
-      go : (b : Bool) → b ≡ false → node ≡ joint_at b piece (top_of was) (top_of f)
-          → record node { right = tree } ≡ joint_at b piece tree (top_of f)
-      go true e is = absurd (cc)
-      go false e is = ap (λ (x : Node). record x { right = tree }) is
+      high : tree.height ≡ height_of n
+      high = ap (λ (v : Top). v.height) h.tree_is
 
-  -- the node once what is longest on that side is written
-  pub shown-left : (longest : ℕ) → b ≡ true
-      → record node { left = record node.left { longest = longest } } ≡ joint_at b piece (record (top_of was) { longest = longest }) (top_of f)
-  shown-left longest e = go b e node_is
-    where
-      go : (b : Bool) → b ≡ true → node ≡ joint_at b piece (top_of was) (top_of f)
-          → record node { left = record node.left { longest = longest } }
-          ≡ joint_at b piece (record (top_of was) { longest = longest }) (top_of f)
-      go true e is = ap (λ (x : Node). record x { left = record x.left { longest = longest } }) is
-      go false e is = absurd (cc)
-
-  pub shown-right : (longest : ℕ) → b ≡ false
-      → record node { right = record node.right { longest = longest } }
-      ≡ joint_at b piece (record (top_of was) { longest = longest }) (top_of f)
-  shown-right longest e = go b e node_is
-    where
-      go : (b : Bool) → b ≡ false → node ≡ joint_at b piece (top_of was) (top_of f)
-          → record node { right = record node.right { longest = longest } }
-          ≡ joint_at b piece (record (top_of was) { longest = longest }) (top_of f)
-      go true e is = absurd (cc)
-      go false e is = ap (λ (x : Node). record x { right = record x.right { longest = longest } }) is
+      go : (b : Bool) → abs_diff (joint_at b piece tree (top_of f)).left.height (joint_at b piece tree (top_of f)).right.height ≤ 1
+          → AreNear n f
+      go true d = (grind (arith, high, d), grind (arith, high, d))
+      go false d = (grind (arith, high, d), grind (arith, high, d))

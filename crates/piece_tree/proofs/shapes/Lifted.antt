@@ -1,14 +1,17 @@
 -- A way back up a tree, where the tree at its end has the root and the height that it had: what is longest changes alone.
-use Rattle.std.proofs.Common.{◌≡◌, ℕ, ◌+◌, ◌-◌, ◌<◌, max, List, refl, ap, sym, ◌∙◌, subst, arith}
-use Rattle.slab.specs.Slab.{Slab, get}
+use Rattle.std.proofs.Common.{◌≡◌, ℕ, ◌+◌, ◌-◌, ◌<◌, max, true, false, List, Some, ap, sym, ◌∙◌, subst, arith}
+use Rattle.slab.specs.Slab.{Slab, Updates, get}
 use Rattle.piece_tree.specs.declared.node.Node.{Node}
 use Rattle.piece_tree.specs.declared.node.Top.{Top}
 use Rattle.piece_tree.specs.declared.way.Step.{Step}
-use Rattle.piece_tree.specs.Tree.{Shape, CanHang, CanShow, Joins, KeepsCount, Links, fork, height_of, longest_of, root_of, top_of}
+use Rattle.piece_tree.specs.Tree.{Shape, CanHang, Joins, KeepsCount, Links, fork, height_of, longest_at, longest_of, root_of, top_of}
+use Rattle.piece_tree.specs.Pieces.{IsPiece}
+use Rattle.piece_tree.specs.Tree.{tree_at, with_child}
 use Rattle.piece_tree.specs.Way.{Above, Whole, Beside, CanLift, CanMend, Mends, step_at}
 use Rattle.piece_tree.proofs.shapes.Forks.{fork-height, fork-root}
-use Rattle.piece_tree.proofs.shapes.Hung.{link_joins, shows}
-use Rattle.piece_tree.proofs.shapes.Mended.{Last, Mending, back, further, la, mending_end, mending_start, mending-can, mending-next, stopped}
+use Rattle.piece_tree.proofs.shapes.Hung.{hung-links, hung-on, hung-piece, link_joins, shows}
+use Rattle.piece_tree.proofs.shapes.Mended.{Last, Mending, back, fork-shows, further, la, mending_end, mending_start, mending-can}
+use Rattle.piece_tree.proofs.shapes.Mended.{mending-next, stopped}
 
 -- so far: what lies further up has the root and the height of what was there, and so much is longest in it
 pub record Lifting (old now : Slab Node) (way : List Step) (depth : ℕ) (root : Top) (longest : ℕ) (path : Above) (t new : Shape)
@@ -55,44 +58,51 @@ module _ (old now : Slab Node) (way : List Step) (depth : ℕ) (root : Top) (lon
     abbrev l : Last way depth m.up
     l = la old now way depth root i.top path t new m pos
 
-    pub lifting-can : CanShow (get now) s.before s.key longest l.piece m.there m.here l.other
-    lifting-can = record {
-      can = subst (λ v. CanHang (get now) s.before s.key v l.piece m.there m.here l.other) m.can.is
-          (mending-can old now way depth root i.top path t new m pos);
-      same_root = i.same_root;
-      same_height = i.same_height;
-      is = i.is;
-    }
+    pub lifting-can : CanHang (get now) s.before s.key (top_of m.here) l.piece m.there m.here l.other
+    lifting-can = subst (λ v. CanHang (get now) s.before s.key v l.piece m.there m.here l.other) m.can.is
+        (mending-can old now way depth root i.top path t new m pos)
 
-    module _ (next : Slab Node) (u : Links (get now) (get next) s.before (top_of (fork s.before s.key l.piece m.here l.other)) s.key l.piece
-        m.here l.other) (c : KeepsCount now next) where
-      abbrev j : Joins (get now) (get next) s.before (top_of (fork s.before s.key l.piece m.here l.other)) s.key l.piece m.here l.other
-      j = link_joins (get now) (get next) s.before _ s.key l.piece m.here l.other u
+    module _ (node : Node) (e : get now s.key ≡ Some node) (child : Top) (on : s.before ≡ true → child ≡ node.left)
+        (off : s.before ≡ false → child ≡ node.right) where
+      was : child ≡ top_of m.there
+      was = hung-on (get now) s.before s.key (top_of m.here) l.piece m.there m.here l.other lifting-can node e child on off
 
-      heights : height_of (fork s.before s.key l.piece m.here l.other) ≡ height_of (fork s.before s.key l.piece m.there l.other)
-      heights = fork-height s.before s.key l.piece m.here l.other ∙ ap (λ h. 1 + max h (height_of l.other)) i.same_height
-          ∙ sym (fork-height s.before s.key l.piece m.there l.other)
+      shown : record child { longest = longest } ≡ top_of m.here
+      shown = shows m.here m.there child longest was i.same_root i.same_height i.is
 
-      roots : root_of (fork s.before s.key l.piece m.here l.other) ≡ root_of (fork s.before s.key l.piece m.there l.other)
-      roots = fork-root s.before s.key l.piece m.here l.other ∙ sym (fork-root s.before s.key l.piece m.there l.other)
+      pub lifting-piece : IsPiece (with_child s.before node (record child { longest = longest })).piece
+      lifting-piece =
+          subst IsPiece (sym (hung-piece (get now) s.before s.key (top_of m.here) l.piece m.there m.here l.other lifting-can node e _))
+          lifting-can.fine
 
-      pub lifting-next : (then : ℕ) → then ≡ longest_of (fork s.before s.key l.piece m.here l.other)
-          → Lifting old next way (depth - 1) root then path t new
-      unfolding mending-next link_joins
-      lifting-next then e = record {
-        top = top_of (fork s.before s.key l.piece m.here l.other);
-        mending = mending-next old now way depth root i.top path t new m pos next _ j c;
-        same_root = roots;
-        same_height = heights;
-        is = e;
-      }
+      module _ (written : Top) (w : written ≡ record child { longest = longest }) (next : Slab Node)
+          (u : Updates now next s.key (Some (with_child s.before node written))) (c : KeepsCount now next) where
+        links : Links (get now) (get next) s.before (tree_at s.key (with_child s.before node (top_of m.here))) s.key l.piece m.here l.other
+        links = hung-links now next s.before s.key (top_of m.here) l.piece m.there m.here l.other lifting-can node e
+            (subst (λ v. Updates now next s.key (Some (with_child s.before node v))) (w ∙ shown) u)
+            (omega (arith, lifting-can.near, i.same_height), omega (arith, lifting-can.near, i.same_height))
 
-      pub lifting-stops : longest_of (fork s.before s.key l.piece m.here l.other) ≡ longest_of (fork s.before s.key l.piece m.there l.other)
-          → Mends (get old) (get next) root path t new
-      unfolding link_joins
-      lifting-stops e =
-          back old now way depth root i.top path t new m pos next _ j c next root
-          (stopped (get next) way (depth - 1) root _ l.more _ _ (further old now way depth root i.top path t new m pos next _ j c)
-          (shows (fork s.before s.key l.piece m.there l.other) (fork s.before s.key l.piece m.here l.other)
-          (top_of (fork s.before s.key l.piece m.here l.other)) (longest_of (fork s.before s.key l.piece m.here l.other)) refl (sym roots)
-          (sym heights) e))
+        abbrev j : Joins (get now) (get next) s.before (top_of (fork s.before s.key l.piece m.here l.other)) s.key l.piece m.here l.other
+        j = link_joins (get now) (get next) s.before _ s.key l.piece m.here l.other
+            (subst (λ top. Links (get now) (get next) s.before top s.key l.piece m.here l.other) links.is links)
+
+        pub lifting-next : (then : ℕ) → then ≡ longest_at (with_child s.before node written)
+            → Lifting old next way (depth - 1) root then path t new
+        unfolding mending-next link_joins
+        lifting-next then is = record {
+          top = top_of (fork s.before s.key l.piece m.here l.other);
+          mending = mending-next old now way depth root i.top path t new m pos next _ j c;
+          same_root = fork-root s.before s.key l.piece m.here l.other ∙ sym (fork-root s.before s.key l.piece m.there l.other);
+          same_height = fork-height s.before s.key l.piece m.here l.other ∙ ap (λ h. 1 + max h (height_of l.other)) i.same_height
+              ∙ sym (fork-height s.before s.key l.piece m.there l.other);
+          is = is ∙ ap (λ v. longest_at (with_child s.before node v)) (w ∙ shown) ∙ ap (λ (v : Top). v.longest) links.is;
+        }
+
+        -- as much was longest there before
+        pub lifting-stops : child.longest ≡ longest → Mends (get old) (get next) root path t new
+        unfolding link_joins
+        lifting-stops same =
+            back old now way depth root i.top path t new m pos next _ j c next root
+            (stopped (get next) way (depth - 1) root _ l.more _ _ (further old now way depth root i.top path t new m pos next _ j c)
+            (fork-shows s.before s.key l.piece m.here m.there l.other
+            (sym shown ∙ ap (λ x. record child { longest = x }) (sym same) ∙ was)))

@@ -44,7 +44,7 @@ same_above look next (Beside b key p o up) t a h = (
   same_above look next up (fork b key p t o) a.4 (λ k g. h k (omega arith)),
 )
 
-fork-shows : (b : Bool) (key : ℕ) (p : Piece) (s t o : Shape) → top_of s ≡ top_of t → top_of (fork b key p s o) ≡ top_of (fork b key p t o)
+pub fork-shows : (b : Bool) (key : ℕ) (p : Piece) (s t o : Shape) → top_of s ≡ top_of t → top_of (fork b key p s o) ≡ top_of (fork b key p t o)
 fork-shows true key p s t o e = ap (λ (v : Top). record {
   root = Some key;
   height = 1 + max v.height (height_of o);

@@ -1,7 +1,18 @@
-use Rattle.std.proofs.Common.{sym, ◌∙◌, arith}
-use Rattle.piece_tree.proofs.shapes.Lifted.{lifting_start, lifting_end, lifting-can, lifting-next, lifting-stops}
+use Rattle.std.proofs.Common.{ℕ, Option, Some, None, IsSome, cond, is_some, refl, ap, arith}
+use Rattle.std.proofs.lemmas.List.Sums.{sum_by-set}
+use Rattle.slab.specs.Slab.{Slab, get, with_value}
+use Rattle.slab.proofs.SlabLemmas.{ContainsKey-within, Updates-with_value}
+use Rattle.piece_tree.specs.declared.node.Node.{Node}
+use Rattle.piece_tree.specs.Tree.{KeepsCount}
+use Rattle.piece_tree.proofs.shapes.Forks.{is_there}
+use Rattle.piece_tree.proofs.shapes.Lifted.{lifting_start, lifting_end, lifting-can, lifting-next, lifting-piece, lifting-stops}
 use Rattle.piece_tree.proofs.shapes.Mended.{counts_twice, mending-few}
 use Rattle.piece_tree.proofs.way.lift.Goals as goal
+
+kept : (nodes : Slab Node) (key : ℕ) (node : Node) → IsSome (get nodes key) → KeepsCount nodes (with_value nodes key node)
+kept nodes key node there =
+    let h = sum_by-set (λ (o : Option Node). cond (is_some o) 1 0) nodes.slots key (Some node) None (ContainsKey-within nodes key there) in
+    record { len = omega (arith, h, ap {B = ℕ} (λ b. cond b 1 0) there); capacity = refl }
 
 pub loop-depth-init : goal.loop-depth-init
 loop-depth-init c = lifting_start c.args.nodes.now c.args.way.now c.args.steps c.args.root c.args.longest
@@ -22,40 +33,44 @@ offset_bounds-way-depth c =
     c.loop-depth-test.true in
     omega arith
 
-pub set_longest-below-requires : goal.set_longest-below-requires
-set_longest-below-requires c =
-    let q = c.requires in (
-      _,
-      _,
-      _,
-      _,
-      lifting-can c.args.nodes.now c.loop-depth.nodes c.args.way.now c.loop-depth.depth c.args.root c.loop-depth.now q.0 q.1 q.2
-          (c.loop-depth.invariant q.0 q.1 q.2 q.3) c.loop-depth-test.true,
-    )
-
-pub returns-then-below-clause-lifted : goal.returns-then-below-clause-lifted
-returns-then-below-clause-lifted c path t new can =
-    let i = c.loop-depth.invariant path t new can in
-    let h = lifting-can c.args.nodes.now c.loop-depth.nodes c.args.way.now c.loop-depth.depth c.args.root c.loop-depth.now path t new i
-    c.loop-depth-test.true in
-    lifting-stops c.args.nodes.now c.loop-depth.nodes c.args.way.now c.loop-depth.depth c.args.root c.loop-depth.now path t new i
-    c.loop-depth-test.true c.set_longest-below.new.nodes (c.set_longest-below.ensures.links _ _ _ _ h) c.set_longest-below.ensures.count
-    (sym (c.set_longest-below.ensures.now _ _ _ _ h) ∙ c.if-below.true ∙ c.set_longest-below.ensures.was _ _ _ _ h)
-
-pub returns-then-below-clause-count : goal.returns-then-below-clause-count
-returns-then-below-clause-count c =
+pub index_mut-node-requires : goal.index_mut-node-requires
+index_mut-node-requires c =
     let q = c.requires in
-    counts_twice c.args.nodes.now c.loop-depth.nodes c.set_longest-below.new.nodes (c.loop-depth.invariant q.0 q.1 q.2 q.3).mending.count
-    c.set_longest-below.ensures.count
+    is_there _ _ (lifting-can c.args.nodes.now c.loop-depth.nodes c.args.way.now c.loop-depth.depth c.args.root c.loop-depth.now q.0 q.1
+    q.2 (c.loop-depth.invariant q.0 q.1 q.2 q.3) c.loop-depth-test.true).here
+
+pub returns-then-child-now-clause-lifted : goal.returns-then-child-now-clause-lifted
+returns-then-child-now-clause-lifted c path t new can =
+    let there = c.index_mut-node.ensures.value in
+    let child = c.child_mut-child in
+    lifting-stops c.args.nodes.now c.loop-depth.nodes c.args.way.now c.loop-depth.depth c.args.root c.loop-depth.now path t new
+    (c.loop-depth.invariant path t new can) c.loop-depth-test.true c.index_mut-node.result.now there child.result.now child.ensures.before
+    child.ensures.behind child.result.now (ap (λ x. record child.result.now { longest = x }) c.if-child-now.true) _
+    (Updates-with_value c.loop-depth.nodes _ _ (is_there _ _ there)) (kept c.loop-depth.nodes _ _ (is_there _ _ there)) c.if-child-now.true
+
+pub returns-then-child-now-clause-count : goal.returns-then-child-now-clause-count
+returns-then-child-now-clause-count c =
+    let q = c.requires in
+    counts_twice c.args.nodes.now c.loop-depth.nodes _ (c.loop-depth.invariant q.0 q.1 q.2 q.3).mending.count
+    (kept c.loop-depth.nodes _ _ (is_there _ _ c.index_mut-node.ensures.value))
+
+pub longest-now-requires : goal.longest-now-requires
+longest-now-requires c =
+    let q = c.requires in
+    let child = c.child_mut-child in
+    lifting-piece c.args.nodes.now c.loop-depth.nodes c.args.way.now c.loop-depth.depth c.args.root c.loop-depth.now q.0 q.1 q.2
+    (c.loop-depth.invariant q.0 q.1 q.2 q.3) c.loop-depth-test.true c.index_mut-node.result.now c.index_mut-node.ensures.value
+    child.result.now child.ensures.before child.ensures.behind
 
 pub loop-depth-preserved : goal.loop-depth-preserved
 loop-depth-preserved c path t new can =
-    let i = c.loop-depth.invariant path t new can in
-    let h = lifting-can c.args.nodes.now c.loop-depth.nodes c.args.way.now c.loop-depth.depth c.args.root c.loop-depth.now path t new i
-    c.loop-depth-test.true in
-    lifting-next c.args.nodes.now c.loop-depth.nodes c.args.way.now c.loop-depth.depth c.args.root c.loop-depth.now path t new i
-    c.loop-depth-test.true c.set_longest-below.new.nodes (c.set_longest-below.ensures.links _ _ _ _ h) c.set_longest-below.ensures.count
-    c.set_longest-below.result.now (c.set_longest-below.ensures.now _ _ _ _ h)
+    let there = c.index_mut-node.ensures.value in
+    let child = c.child_mut-child in
+    lifting-next c.args.nodes.now c.loop-depth.nodes c.args.way.now c.loop-depth.depth c.args.root c.loop-depth.now path t new
+    (c.loop-depth.invariant path t new can) c.loop-depth-test.true c.index_mut-node.result.now there child.result.now child.ensures.before
+    child.ensures.behind (record child.result.now { longest = c.loop-depth.now }) refl _
+    (Updates-with_value c.loop-depth.nodes _ _ (is_there _ _ there)) (kept c.loop-depth.nodes _ _ (is_there _ _ there))
+    c.longest-now.result c.longest-now.ensures
 
 pub returns-clause-lifted : goal.returns-clause-lifted
 returns-clause-lifted c path t new can =
