@@ -1,8 +1,8 @@
 //! The piece that came free last, which the tree still has as live, and pieces that the tree is told are free.
 
-ghost use Rattle.std.specs.Prelude.{◌≡◌, ◌≢◌, ℕ, ◌+◌, ◌^◌, ◌<◌, ◌≤◌, ◌⊎◌, length, IsTrue, IfSome, IfNone, None, Some, false};
+ghost use Rattle.std.specs.Prelude.{◌≡◌, ◌≢◌, ℕ, ◌+◌, ◌^◌, ◌<◌, ◌≤◌, ◌↔◌, ◌⊎◌, length, IsTrue, IfSome, IfNone, None, Some, false};
 ghost use Rattle.dmatypes.specs.World.{IsIn};
-ghost use Rattle.piece_tree.specs.Pieces.{Holds};
+ghost use Rattle.piece_tree.specs.Pieces.{Holds, piece_at};
 ghost use Rattle.piece_tree.specs.Freed.{free_start, with_free};
 ghost use Rattle.iova.specs.Pieces.{NoneFreeBelow, pages_as, state_at};
 ghost use Rattle.iova.specs.Space.{IsLowestFit, IsSpace};
@@ -146,6 +146,17 @@ pub(crate) fn live_at(tree: &PieceTree, freed: Option<Ends>, page: u64) -> Optio
     match piece.state {
         PageState::Live => Some(piece),
         PageState::Free | PageState::Retired => None,
+    }
+}
+
+/// Whether some pages are just a live piece of the tree.
+#[inline(always)]
+pub(crate) fn is_live(tree: &PieceTree, pages: Ends) -> bool
+    ensures { IsTrue result ↔ (piece_at tree.now pages.first ≡ Some (pages_as pages PageState.Live)) }
+{
+    match tree.piece_at(pages.first) {
+        Some(piece) => pages.are(Some(Ends::of(piece))) && matches!(piece.state, PageState::Live),
+        None => false,
     }
 }
 

@@ -212,8 +212,8 @@ impl PageTree {
         freeing::live_at(&self.tree, self.freed, page)
     }
 
-    /// Whether one live piece has some pages. If so, it is at hand: what is done to it next, if nothing is done before, need not look
-    /// for it.
+    /// Whether one live piece has some pages. If so, it is kept in mind: where it comes free next, and nothing is done before, it isn't
+    /// looked for.
     #[inline(always)]
     pub(crate) fn hold_live(&mut self, pages: Ends) -> bool
         ensures live { IsTrue result → IsIn (pages_as pages PageState.Live) self.old.pieces }
@@ -225,7 +225,7 @@ impl PageTree {
         freeing::put_freed(&mut self.tree, &mut self.low, self.freed);
         self.freed = None;
         self.judged = None;
-        if !self.tree.seek_live(pages.first, pages.last) {
+        if !freeing::is_live(&self.tree, pages) {
             return false;
         }
         self.judged = Some(pages);
@@ -260,7 +260,7 @@ impl PageTree {
         freeing::put_freed(&mut self.tree, &mut self.low, self.freed);
         self.freed = None;
         self.judged = None;
-        if self.tree.seek_live(pages.first, pages.last) {
+        if freeing::is_live(&self.tree, pages) {
             self.freed = Some(pages);
             return;
         }

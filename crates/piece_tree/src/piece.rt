@@ -1,6 +1,6 @@
 //! Pieces: runs of pages of one state.
 
-ghost use Rattle.std.specs.Prelude.{◌≡◌, ◌↔◌, IsTrue};
+ghost use Rattle.std.specs.Prelude.{◌≡◌};
 
 /// Page numbers, and counts of pages, are below it: no sum of two of them wraps (own).
 pub const NUMBERS_END: u64 = 1 << 40;
@@ -38,13 +38,5 @@ impl Piece {
         ensures { result ≡ is_free self.now.state }
     {
         matches!(self.state, PageState::Free)
-    }
-
-    /// Whether it is the live piece with the pages from a first to a last one.
-    #[inline(always)]
-    pub(crate) fn is_live_with(&self, first: u64, last: u64) -> bool
-        ensures { IsTrue result ↔ (self.now ≡ record { first = first; last = last; state = PageState.Live }) }
-    {
-        self.last == last && self.first == first && matches!(self.state, PageState::Live)
     }
 }

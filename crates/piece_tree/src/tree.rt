@@ -9,7 +9,7 @@ use crate::node::{NO_TREE, Node, Top};
 use crate::piece::{MOST_PIECES, NUMBERS_END, PageState, Piece};
 use crate::search::{are_short_before, find, first_from, fit_between, go_long};
 use crate::stretches::{Stretch, with_free_ends};
-use crate::way::{Held, MOST_HEIGHT, NO_STEP, Step, reach, walk};
+use crate::way::{Held, MOST_HEIGHT, NO_STEP, Step, reach};
 use slab::Slab;
 use std::alloc::{AllocError, Global};
 use std::marker::Model;
@@ -102,23 +102,6 @@ impl PieceTree {
             depth: place.depth,
         });
         Some(self.nodes[key].piece)
-    }
-
-    /// Whether one live piece has the pages from a first to a last one. It is at hand then.
-    pub fn seek_live(&mut self, first: u64, last: u64) -> bool
-        ensures live { IsTrue result ↔ (piece_at self.old first ≡ Some (record { first = first; last = last; state = PageState.Live })) }
-        ensures unchanged { self.new ≡ self.old }
-    {
-        let place = walk(&self.nodes, self.root, first, first, &mut self.way);
-        let Some(key) = place.at else {
-            self.hand = None;
-            return false;
-        };
-        self.hand = Some(Held {
-            key,
-            depth: place.depth,
-        });
-        self.nodes[key].piece.is_live_with(first, last)
     }
 
     /// The piece that a page lies in.

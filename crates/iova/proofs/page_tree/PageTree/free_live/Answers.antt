@@ -1,12 +1,11 @@
 use Rattle.std.proofs.Common.{◌≡◌, ◌≤◌, ◌∙◌, Some, refl, ap, subst, sym}
 use Rattle.dmatypes.specs.Page.{Range}
-use Rattle.dmatypes.specs.World.{IsIn}
 use Rattle.piece_tree.specs.declared.piece.PageState.{PageState}
 use Rattle.piece_tree.specs.declared.piece.PageState.TheVariants.{Free, Live}
 use Rattle.iova.specs.declared.ends.Ends.{Ends}
 use Rattle.iova.specs.Changes.{FreesLive}
 use Rattle.piece_tree.specs.Freed.{with_free}
-use Rattle.iova.specs.Pieces.{NoneFreeBelow, pages_as, piece_of}
+use Rattle.iova.specs.Pieces.{pages_as, piece_of}
 use Rattle.iova.specs.Space.{Space, IsSpace, MayRetire}
 use Rattle.iova.specs.Stored.{shown, stored}
 use Rattle.iova.proofs.FreedLive.{frees_live, space_freed_live}
@@ -49,16 +48,14 @@ returns-then-are-clause-space c =
       stays a c.args.self.now c.args.range c.ends_of-pages.result Live view c.self.invariant.0 e.range.some (e.piece Live) c.requires,
     )
 
-pub invariant_of-self-then-seek_live : goal.invariant_of-self-then-seek_live
-invariant_of-self-then-seek_live c =
+pub invariant_of-self-then-is_live : goal.invariant_of-self-then-is_live
+invariant_of-self-then-is_live c =
     let pages = c.ends_of-pages.result in
-    let there = (at_in c.put_freed.new.tree pages.first (pages_as pages Live) (c.seek_live.ensures.live.0 c.if-seek_live.true)).0 in
-    subst (λ l. IsSpace (stored c.self.inside.last l) × NoneFreeBelow c.put_freed.new.low l × IsIn (pages_as pages Live) l × Unit {0})
-    (sym c.seek_live.ensures.unchanged)
+    let there = (at_in c.put_freed.new.tree pages.first (pages_as pages Live) (c.is_live.ensures.0 c.if-is_live.true)).0 in
     (c.put_freed.ensures.space c.self.inside.last c.self.invariant.0, c.put_freed.ensures.low, there, tt)
 
-pub returns-then-seek_live-clause-freed : goal.returns-then-seek_live-clause-freed
-returns-then-seek_live-clause-freed c =
+pub returns-then-is_live-clause-freed : goal.returns-then-is_live-clause-freed
+returns-then-is_live-clause-freed c =
     let last = c.self.inside.last in
     let a : Space = stored last c.put_freed.new.tree in
     let sp : IsSpace a = c.put_freed.ensures.space last c.self.invariant.0 in
@@ -66,11 +63,10 @@ returns-then-seek_live-clause-freed c =
     let pages = c.ends_of-pages.result in
     let e = c.ends_of-pages.ensures in
     comes_free a c.args.self.now c.args.range pages Live view sp e.range.some (e.piece Live) c.requires
-    (stored last (shown (Some pages) c.seek_live.new.self))
-    (ap (λ l. stored last (with_free (pages_as pages Live) l)) c.seek_live.ensures.unchanged)
+    (stored last (shown (Some pages) c.put_freed.new.tree)) refl
 
-pub returns-then-seek_live-clause-space : goal.returns-then-seek_live-clause-space
-returns-then-seek_live-clause-space c =
+pub returns-then-is_live-clause-space : goal.returns-then-is_live-clause-space
+returns-then-is_live-clause-space c =
     let last = c.self.inside.last in
     let a : Space = stored last c.put_freed.new.tree in
     let sp : IsSpace a = c.put_freed.ensures.space last c.self.invariant.0 in
@@ -78,14 +74,11 @@ returns-then-seek_live-clause-space c =
     let pages = c.ends_of-pages.result in
     let e = c.ends_of-pages.ensures in (
       subst (λ v. IsSpace v) view sp,
-      subst (λ l. IsSpace (stored last (with_free (pages_as pages Live) l))) (sym c.seek_live.ensures.unchanged)
-          (stays a c.args.self.now c.args.range pages Live view sp e.range.some (e.piece Live) c.requires),
+      stays a c.args.self.now c.args.range pages Live view sp e.range.some (e.piece Live) c.requires,
     )
 
-pub invariant_of-self-else-seek_live : goal.invariant_of-self-else-seek_live
-invariant_of-self-else-seek_live c =
-    subst (λ l. IsSpace (stored c.self.inside.last l) × NoneFreeBelow c.put_freed.new.low l × Unit {0} × Unit {0})
-    (sym c.seek_live.ensures.unchanged)
+pub invariant_of-self-else-is_live : goal.invariant_of-self-else-is_live
+invariant_of-self-else-is_live c =
     (c.put_freed.ensures.space c.self.inside.last c.self.invariant.0, c.put_freed.ensures.low, tt, tt)
 
 pub free-requires-clause-space : goal.free-requires-clause-space
@@ -96,8 +89,7 @@ free-requires-clause-space c _ =
     let view : a ≡ c.args.self.now = ap (λ ps. stored last ps) c.put_freed.ensures.pieces ∙ c.self.view_is in
     let pages = c.ends_of-pages.result in
     let e = c.ends_of-pages.ensures in
-    subst (λ l. IsSpace (stored last (with_free (pages_as pages Free) l))) (sym c.seek_live.ensures.unchanged)
-    (stays a c.args.self.now c.args.range pages Free view sp e.range.some (e.piece Free) c.requires)
+    stays a c.args.self.now c.args.range pages Free view sp e.range.some (e.piece Free) c.requires
 
 pub returns-clause-freed : goal.returns-clause-freed
 returns-clause-freed c =
@@ -108,4 +100,4 @@ returns-clause-freed c =
     let pages = c.ends_of-pages.result in
     let e = c.ends_of-pages.ensures in
     comes_free a c.args.self.now c.args.range pages Free view sp e.range.some (e.piece Free) c.requires c.free.new.self
-    (c.free.ensures.is ∙ ap (λ l. stored last (with_free (pages_as pages Free) l)) c.seek_live.ensures.unchanged)
+    c.free.ensures.is
