@@ -9,5 +9,3 @@ pub mod Found
 pub mod Neighbours
 pub mod BesidePieces
 pub mod Narrow
-pub mod FirstLong
-pub mod FitPiece

@@ -31,40 +31,19 @@ pub(crate) fn find(tree: &mut PieceTree, sought: Sought) -> Option<Found>
         × (found.start + sought.pages ≤ found.pages.last + 1)) }
     ensures unchanged { tree.new ≡ tree.old }
 {
-    if sought.unit == 1 && sought.floor == 1 {
-        let piece = tree.seek_long(sought.pages)?;
-        return Some(Found {
-            start: piece.first,
-            pages: Ends::of(piece),
-        });
-    }
-    let start = fit_from(tree, sought)?;
-    let Some(piece) = tree.seek(start) else {
-        unreachable!()
-    };
-    Some(Found {
-        start,
-        pages: Ends::of(piece),
-    })
-}
-
-// The lowest start of what is sought from the floor on; where there is none, the lowest of all.
-fn fit_from(tree: &PieceTree, sought: Sought) -> Option<u64>
-    requires ordered { IsOrdered 1 tree.now }
-    requires sought { IsSought sought }
-    ensures lowest { IfSome result (IsLowestFrom sought.floor tree.now sought.pages sought.unit) }
-    ensures none { IfNone result ((start : ℕ) → IsFit tree.now sought.pages sought.unit start → ⊥) }
-{
     // No page is at or above the end of the numbers, wherever above it the floor is.
     let least = sought.floor.min(NUMBERS_END);
-    if let Some(start) = tree.first_fit(least, sought.pages, sought.unit) {
-        return Some(start);
+    if let Some((start, piece)) = tree.seek_fit(least, sought.pages, sought.unit) {
+        let pages = Ends::of(piece);
+        return Some(Found { start, pages });
     }
     // No piece has a page below the first one.
     if least <= 1 {
         return None;
     }
-    tree.first_fit(0, sought.pages, sought.unit)
+    let (start, piece) = tree.seek_fit(0, sought.pages, sought.unit)?;
+    let pages = Ends::of(piece);
+    Some(Found { start, pages })
 }
 
 /// A page below which no free piece begins, where none began below the page `low`, once it is known where the lowest pages lie that were

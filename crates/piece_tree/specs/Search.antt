@@ -1,7 +1,8 @@
 -- What a search in pieces finds.
-use Rattle.std.specs.Prelude.{ℕ, ◌≡◌, ◌+◌, ◌%◌, ◌<◌, ◌≤◌, max, nat_le, IsTrue}
+use Rattle.std.specs.Prelude.{ℕ, ◌≡◌, ◌+◌, ◌%◌, ◌<◌, ◌≤◌, ◌⊎◌, max, nat_le, IsTrue}
 use Rattle.std.specs.Prelude.{if◌then◌else◌, List, [], ◌∷◌, ◌++◌, Option, Some, None}
 use Rattle.std.specs.List.{AllByRecursion}
+use Rattle.piece_tree.specs.declared.node.Node.{Node}
 use Rattle.piece_tree.specs.declared.piece.Piece.{Piece}
 use Rattle.piece_tree.specs.Pieces.{is_free}
 use Rattle.piece_tree.specs.Tree.{free_pages}
@@ -19,21 +20,9 @@ unfoldable pub pieces_from : ℕ → List Piece → List Piece
 pieces_from page [] = []
 pieces_from page (p ∷ ps) = if nat_le page p.first then p ∷ ps else pieces_from page ps
 
--- fewer pages of it are free
-abbrev pub IsShort : ℕ → Piece → Type 0
-IsShort pages p = free_pages p < pages
-
 -- it begins at the page or behind it, or fewer pages of it are free
 abbrev pub IsShortBefore : (page pages : ℕ) → Piece → Type 0
 IsShortBefore page pages p = p.first < page → free_pages p < pages
-
--- the first piece with so many free pages
-pub record IsFirstLong (pages : ℕ) (ps : List Piece) (p : Piece) : Type 0 where
-  pub before : List Piece
-  pub behind : List Piece
-  pub parts : ps ≡ before ++ p ∷ behind
-  pub short : AllByRecursion (IsShort pages) before
-  pub long : pages ≤ free_pages p
 
 -- ---- starts
 
@@ -45,13 +34,21 @@ IsRoundUp page unit up = (up % unit ≡ 0) × (page ≤ up) × ((other : ℕ) �
 abbrev pub HasNoRoom : ℕ → ℕ → ℕ → Piece → Type 0
 HasNoRoom floor pages unit p = IsTrue (is_free p.state) → (t : ℕ) → max p.first floor ≤ t → t % unit ≡ 0 → t + pages ≤ p.last + 1 → ⊥
 
--- the start lies in the first piece that has room from the floor on
-pub record IsFound (floor pages unit : ℕ) (pieces : List Piece) (start : ℕ) : Type 0 where
-  pub before : List Piece
-  pub piece : Piece
-  pub behind : List Piece
-  pub parts : pieces ≡ before ++ piece ∷ behind
-  pub none : AllByRecursion (HasNoRoom floor pages unit) before
+-- all that is free before the node's piece is shorter, or no aligned range of that length from the floor on ends before it
+abbrev pub IsNarrowBefore : ℕ → ℕ → ℕ → Node → Type 0
+IsNarrowBefore floor pages unit node = (node.left.longest < pages)
+    ⊎ ((least : ℕ) × IsRoundUp floor unit least × (node.piece.first < least + pages))
+
+-- the first aligned range of that length in the piece from the floor on begins there
+pub record IsStartIn (floor pages unit : ℕ) (piece : Piece) (start : ℕ) : Type 0 where
   pub free : IsTrue (is_free piece.state)
   pub up : IsRoundUp (max piece.first floor) unit start
   pub room : start + pages ≤ piece.last + 1
+
+-- the piece is the first that has room from the floor on, and the start the first in it
+pub record IsFound (floor pages unit : ℕ) (pieces : List Piece) (start : ℕ) (piece : Piece) : Type 0 where
+  pub before : List Piece
+  pub behind : List Piece
+  pub parts : pieces ≡ before ++ piece ∷ behind
+  pub none : AllByRecursion (HasNoRoom floor pages unit) before
+  pub here : IsStartIn floor pages unit piece start

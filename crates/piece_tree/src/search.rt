@@ -1,18 +1,17 @@
 //! Where pieces are.
 
-ghost use Rattle.std.specs.Prelude.{◌≡◌, ◌+◌, ◌^◌, ◌<◌, ◌≤◌, ◌↔◌, ◌++◌, ℕ, List, IfSome, IfNone, IsTrue};
+ghost use Rattle.std.specs.Prelude.{◌≡◌, ◌+◌, ◌^◌, ◌<◌, ◌≤◌, ◌↔◌, ◌++◌, ℕ, List, IfSome, IfNone, IsTrue, true, false};
 ghost use Rattle.std.specs.List.{AllByRecursion};
-ghost use Rattle.slab.specs.Slab.{get};
-ghost use Rattle.piece_tree.specs.Pieces.{AreSorted, piece_at};
-ghost use Rattle.piece_tree.specs.Search.{HasNoRoom, IsFirstLong, IsFound, IsRoundUp, IsShort, IsShortBefore};
+ghost use Rattle.piece_tree.specs.Pieces.{IsPiece, piece_at};
+ghost use Rattle.piece_tree.specs.Search.{HasNoRoom, IsFound, IsNarrowBefore, IsRoundUp, IsShortBefore, IsStartIn};
 ghost use Rattle.piece_tree.specs.Search.{first_of, pieces_from};
-ghost use Rattle.piece_tree.specs.Tree.{IsTop, IsWhole, Shape, items, pieces_of};
+ghost use Rattle.piece_tree.specs.Tree.{IsWhole, Shape, items, pieces_of};
 ghost use Rattle.piece_tree.specs.Way.{IsHand};
 
 use crate::links::free_length;
 use crate::node::{Node, Top};
 use crate::piece::{NUMBERS_END, Piece};
-use crate::way::{Held, MOST_HEIGHT, Step};
+use crate::way::{Held, MOST_HEIGHT, Step, step_above};
 use slab::Slab;
 
 /// The piece that a page lies in.
@@ -51,37 +50,6 @@ pub(crate) fn first_from(nodes: &Slab<Node>, root: Top, page: u64) -> Option<Pie
     found
 }
 
-/// The key of the first piece with so many free pages, and the way there.
-pub(crate) fn go_long(
-    nodes: &Slab<Node>,
-    root: Top,
-    pages: u64,
-    way: &mut [Step; MOST_HEIGHT],
-) -> Option<Held>
-    requires tree { (t : Shape) × IsWhole nodes.now root t }
-    requires pages { 1 ≤ pages }
-    ensures hand { (t : Shape) → IsWhole nodes.now root t → IfSome result (λ held. (h : IsHand way.new held t)
-        × IsFirstLong pages (items t) h.piece) }
-    ensures none { (t : Shape) → IsWhole nodes.now root t → IfNone result (AllByRecursion (IsShort pages) (items t)) }
-{
-    if root.longest < pages {
-        return None;
-    }
-    let mut at = root.root;
-    let mut depth = 0;
-    while let Some(key) = at {
-        let node = &nodes[key];
-        let before = node.left.longest >= pages;
-        if !before && free_length(node.piece) >= pages {
-            return Some(Held { key, depth });
-        }
-        way[depth] = Step { key, before };
-        at = node.child(before).root;
-        depth += 1;
-    }
-    None
-}
-
 /// Whether all free pieces that begin before a page have fewer pages than so many.
 pub(crate) fn are_short_before(nodes: &Slab<Node>, root: Top, page: u64, pages: u64) -> bool
     requires { (t : Shape) × IsWhole nodes.now root t }
@@ -106,55 +74,100 @@ pub(crate) fn are_short_before(nodes: &Slab<Node>, root: Top, page: u64, pages: 
     true
 }
 
-/// The first start of so many free pages from a floor on that is a multiple of the unit, where all pieces end before an end. What lies
-/// between the floor and the end is told by the way down, so that no tree is gone through where no multiple of the unit leaves so many
-/// pages.
-pub(crate) fn fit_between(
+/// Where so many pages have room that were looked for: the first of them, and the free piece that they lie in.
+#[derive(Clone, Copy)]
+pub(crate) struct Fit {
+    pub(crate) start: u64,
+    pub(crate) held: Held,
+}
+
+// The first start of so many pages in a piece, from a page on, that is a multiple of the unit, if the piece is free.
+#[inline(always)]
+fn start_in(piece: Piece, low: u64, pages: u64, unit: u64) -> Option<u64>
+    requires piece { IsPiece piece }
+    requires low { low ≤ NUMBERS_END }
+    requires pages { pages < NUMBERS_END }
+    requires unit { unit < NUMBERS_END }
+    requires power { (order : ℕ) × (unit ≡ 2 ^ order) }
+    ensures some { IfSome result (IsStartIn low pages unit piece) }
+    ensures none { IfNone result (HasNoRoom low pages unit piece) }
+{
+    if !piece.is_free() {
+        return None;
+    }
+    let start = round_up(piece.first.max(low), unit);
+    if piece.last + 1 < start + pages {
+        return None;
+    }
+    Some(start)
+}
+
+// Whether the way goes on before a piece: the tree there wasn't gone through, a free piece in it is so long, and from a page on a multiple
+// of the unit leaves so many pages before the piece.
+#[inline(always)]
+fn goes_before(node: &Node, passed: bool, low: u64, pages: u64, unit: u64) -> bool
+    requires low { low ≤ NUMBERS_END }
+    requires pages { pages < NUMBERS_END }
+    requires unit { unit < NUMBERS_END }
+    requires power { (order : ℕ) × (unit ≡ 2 ^ order) }
+    ensures goes { result ≡ true → (passed ≡ false) × (pages ≤ node.now.left.longest) }
+    ensures stays { result ≡ false → passed ≡ false → IsNarrowBefore low pages unit node.now }
+{
+    !passed && node.left.longest >= pages && round_up(low, unit) + pages <= node.piece.first
+}
+
+/// The first start of so many free pages from a floor on that is a multiple of the unit, and the way to the piece. It goes through the
+/// pieces in their order, and passes each tree by that has no piece so long, or no room before its end.
+pub(crate) fn go_fit(
     nodes: &Slab<Node>,
     root: Top,
     floor: u64,
-    end: u64,
     pages: u64,
     unit: u64,
-) -> Option<u64>
-    requires tree { (t : Shape) × (low : ℕ) × IsTop (get nodes.now) root t × AreSorted low (items t) }
+    way: &mut [Step; MOST_HEIGHT],
+) -> Option<Fit>
+    requires tree { (t : Shape) × IsWhole nodes.now root t }
     requires floor { floor ≤ NUMBERS_END }
     requires some_pages { 1 ≤ pages }
     requires pages { pages < NUMBERS_END }
     requires unit { unit < NUMBERS_END }
     requires power { (order : ℕ) × (unit ≡ 2 ^ order) }
-    ensures found { (t : Shape) (low : ℕ) → IsTop (get nodes.now) root t → AreSorted low (items t)
-        → IfSome result (IsFound floor pages unit (items t)) }
-    ensures none { (t : Shape) (low : ℕ) → IsTop (get nodes.now) root t → AreSorted low (items t)
-        → AllByRecursion (λ p. p.last < end) (items t)
+    ensures hand { (t : Shape) → IsWhole nodes.now root t → IfSome result (λ fit. (h : IsHand way.new fit.held t)
+        × IsFound floor pages unit (items t) fit.start h.piece) }
+    ensures none { (t : Shape) → IsWhole nodes.now root t
         → IfNone result (AllByRecursion (HasNoRoom floor pages unit) (items t)) }
 {
-    let mut at = root;
+    if root.longest < pages {
+        return None;
+    }
+    let mut at = root.root;
+    let mut depth = 0;
     let mut low = floor;
-    while let Some(key) = at.root {
-        if at.longest < pages {
-            return None;
-        }
-        let least = round_up(low, unit);
-        if end < least + pages {
-            return None;
-        }
+    // Whether what lies before the piece was gone through.
+    let mut passed = false;
+    while let Some(key) = at {
         let node = &nodes[key];
-        let first = node.piece.first;
-        if least + pages <= first && node.left.longest >= pages {
-            if let Some(start) = fit_between(nodes, node.left, low, first, pages, unit) {
-                return Some(start);
-            }
+        if goes_before(node, passed, low, pages, unit) {
+            way[depth] = Step { key, before: true };
+            at = node.left.root;
+            depth += 1;
+            continue;
         }
-        if node.piece.is_free() {
-            let start = round_up(first.max(low), unit);
-            if start + pages <= node.piece.last + 1 {
-                return Some(start);
-            }
+        if let Some(start) = start_in(node.piece, low, pages, unit) {
+            let held = Held { key, depth };
+            return Some(Fit { start, held });
         }
         // All pieces behind begin behind this one.
         low = low.max(node.piece.last + 1);
-        at = node.right;
+        passed = node.right.longest < pages;
+        if passed {
+            depth = step_above(way, depth, true)?;
+            at = Some(way[depth].key);
+        } else {
+            way[depth] = Step { key, before: false };
+            at = node.right.root;
+            depth += 1;
+        }
     }
     None
 }

@@ -49,12 +49,22 @@ fn frees(tree: &mut PieceTree, first: u64, last: u64) -> Option<u64> {
 }
 
 // The first start of so many free pages that is a multiple of four.
-fn fits(tree: &PieceTree, floor: u64, pages: u64) -> Option<u64>
+fn fits(tree: &mut PieceTree, floor: u64, pages: u64) -> Option<u64>
     requires floor { floor ≤ NUMBERS_END }
     requires some_pages { 1 ≤ pages }
     requires pages { pages < NUMBERS_END }
 {
-    tree.first_fit(floor, pages, 4)
+    let (start, _) = tree.seek_fit(floor, pages, 4)?;
+    Some(start)
+}
+
+// The first piece with so many free pages.
+fn long(tree: &mut PieceTree, pages: u64) -> Option<Piece>
+    requires some_pages { 1 ≤ pages }
+    requires pages { pages < NUMBERS_END }
+{
+    let (_, piece) = tree.seek_fit(0, pages, 1)?;
+    Some(piece)
 }
 
 #[test]
@@ -82,10 +92,10 @@ fn lay_over(rt: &impl Abort, tree: &mut PieceTree) {
     assert!(rt; tree.first_from(12) == piece(31, 39, PageState::Free));
     assert!(rt; tree.piece_at(100) == piece(40, 100, PageState::Live));
     assert!(rt; tree.first_from(41) == None);
-    assert!(rt; tree.seek(30) == piece(11, 30, PageState::Retired));
+    assert!(rt; tree.piece_at(30) == piece(11, 30, PageState::Retired));
     assert!(rt; lays(tree, 5, 20, PageState::Free));
-    assert!(rt; tree.seek_long(16) == piece(5, 20, PageState::Free));
-    assert!(rt; tree.seek_long(17) == None);
+    assert!(rt; long(tree, 16) == piece(5, 20, PageState::Free));
+    assert!(rt; long(tree, 17) == None);
     assert!(rt; tree.are_short_before(32, 17));
     assert!(rt; tree.are_short_before(5, 16));
     assert!(rt; !tree.are_short_before(6, 16));
@@ -166,7 +176,7 @@ fn free_pages(rt: &impl Abort, tree: &mut PieceTree) {
     assert!(rt; tree.piece_at(100) == piece(11, 100, PageState::Free));
     assert!(rt; frees(tree, 101, 101) == None);
     assert!(rt; frees(tree, 1, 10) == Some(1));
-    assert!(rt; tree.seek_long(100) == piece(1, 100, PageState::Free));
+    assert!(rt; long(tree, 100) == piece(1, 100, PageState::Free));
     assert!(rt; tree.len() == 1);
 }
 
@@ -197,7 +207,7 @@ fn find_each(rt: &impl Abort, tree: &mut PieceTree) {
         let free = piece(4 * number, 4 * number + 1, PageState::Free);
         assert!(rt; tree.piece_at(4 * number + 1) == free);
     }
-    assert!(rt; tree.seek_long(3) == piece(2044, 2047, PageState::Free));
+    assert!(rt; long(tree, 3) == piece(2044, 2047, PageState::Free));
 }
 
 // Two pieces beside each other are made one, and three, and more, wherever they lie in a tree.
@@ -240,8 +250,8 @@ fn join_at(rt: &impl Abort, tree: &mut PieceTree, pieces: u64, first: u64, end: 
     let joined = piece(10 * first, 10 * end - 1, PageState::Free);
     assert!(rt; tree.len() as u64 + (end - first) == pieces + 2);
     assert!(rt; tree.piece_at(10 * first) == joined);
-    assert!(rt; tree.seek_long(11) == joined);
-    assert!(rt; tree.seek_long(10 * (end - first) + 1) == None);
+    assert!(rt; long(tree, 11) == joined);
+    assert!(rt; long(tree, 10 * (end - first) + 1) == None);
     stay(rt, tree, 0, first);
     stay(rt, tree, end, pieces);
     free_beside(rt, tree, pieces, first, end);
@@ -326,8 +336,8 @@ fn move_at(rt: &impl Abort, tree: &mut PieceTree, pieces: u64, first: u64, end: 
     assert!(rt; lays(tree, first, end - 1, PageState::Free));
     assert!(rt; tree.len() as u64 + gone == pieces + 1);
     assert!(rt; tree.piece_at(first + 2) == piece(first, end - 1, PageState::Free));
-    assert!(rt; tree.seek_long(end - first) == piece(first, end - 1, PageState::Free));
-    assert!(rt; tree.seek_long(end - first + 1) == None);
+    assert!(rt; long(tree, end - first) == piece(first, end - 1, PageState::Free));
+    assert!(rt; long(tree, end - first + 1) == None);
     move_from(rt, tree, first, end);
     stay(rt, tree, 0, first / 10);
     stay(rt, tree, (end + 9) / 10, pieces);

@@ -7,7 +7,7 @@ use crate::edits::{lay_over, lay_stretch};
 use crate::grafts::add;
 use crate::node::{NO_TREE, Node, Top};
 use crate::piece::{MOST_PIECES, NUMBERS_END, PageState, Piece};
-use crate::search::{are_short_before, find, first_from, fit_between, go_long};
+use crate::search::{are_short_before, find, first_from, go_fit};
 use crate::stretches::{Stretch, with_free_ends};
 use crate::way::{Held, MOST_HEIGHT, NO_STEP, Step, reach};
 use slab::Slab;
@@ -15,7 +15,7 @@ use std::alloc::{AllocError, Global};
 use std::marker::Model;
 
 /// Pieces in the order of their pages, at most 1,024, in a balanced tree. It takes the memory for all of them at once. A call takes some
-/// steps for each level of the tree, and for each piece that comes or goes; `first_fit` also looks where pages lie askew.
+/// steps for each level of the tree, and for each piece that comes or goes; `seek_fit` also looks where pages lie askew.
 #[derive(Drop)]
 pub struct PieceTree {
     root: Top,
@@ -43,7 +43,7 @@ impl PieceTree {
     ghost use Rattle.piece_tree.specs.Freed.{free_start, with_free};
     ghost use Rattle.piece_tree.specs.Pieces.{AreSorted, piece_at};
     ghost use Rattle.piece_tree.specs.Laid.{IsRow, with_piece, with_row};
-    ghost use Rattle.piece_tree.specs.Search.{HasNoRoom, IsFirstLong, IsFound, IsShort, IsShortBefore, first_of, pieces_from};
+    ghost use Rattle.piece_tree.specs.Search.{HasNoRoom, IsFound, IsShortBefore, first_of, pieces_from};
     ghost use Rattle.std.specs.List.{AllByRecursion};
 
     /// No pieces.
@@ -86,24 +86,6 @@ impl PieceTree {
         self.root = add(&mut self.nodes, true, self.root, Some(piece));
     }
 
-    /// The piece that a page lies in. It is at hand then: the next call that asks for it finds it at once.
-    pub fn seek(&mut self, page: u64) -> Option<Piece>
-        ensures piece { result ≡ piece_at self.old page }
-        ensures unchanged { self.new ≡ self.old }
-        ensures sorted { AreSorted 0 self.old }
-    {
-        let place = reach(&self.nodes, self.root, page, page, &mut self.way, self.hand);
-        let Some(key) = place.at else {
-            self.hand = None;
-            return None;
-        };
-        self.hand = Some(Held {
-            key,
-            depth: place.depth,
-        });
-        Some(self.nodes[key].piece)
-    }
-
     /// The piece that a page lies in.
     pub fn piece_at(&self, page: u64) -> Option<Piece>
         ensures piece { result ≡ piece_at self.now page }
@@ -119,19 +101,6 @@ impl PieceTree {
         first_from(&self.nodes, self.root, page)
     }
 
-    /// The first piece with so many free pages. It is at hand then.
-    pub fn seek_long(&mut self, pages: u64) -> Option<Piece>
-        requires { 1 ≤ pages }
-        ensures some { IfSome result (IsFirstLong pages self.old) }
-        ensures none { IfNone result (AllByRecursion (IsShort pages) self.old) }
-        ensures unchanged { self.new ≡ self.old }
-        ensures sorted { AreSorted 0 self.old }
-    {
-        self.hand = go_long(&self.nodes, self.root, pages, &mut self.way);
-        let held = self.hand?;
-        Some(self.nodes[held.key].piece)
-    }
-
     /// Whether all free pieces that begin before a page have fewer pages than so many.
     pub fn are_short_before(&self, page: u64, pages: u64) -> bool
         ensures { IsTrue result ↔ AllByRecursion (IsShortBefore page pages) self.now }
@@ -139,18 +108,23 @@ impl PieceTree {
         are_short_before(&self.nodes, self.root, page, pages)
     }
 
-    /// The first start of so many free pages from a floor on that is a multiple of a unit, a power of two.
-    pub fn first_fit(&self, floor: u64, pages: u64, unit: u64) -> Option<u64>
+    /// The first start of so many free pages from a floor on that is a multiple of a unit, a power of two, and the free piece that they
+    /// lie in. That is at hand then: the next call that asks for it finds it at once.
+    pub fn seek_fit(&mut self, floor: u64, pages: u64, unit: u64) -> Option<(u64, Piece)>
         requires floor { floor ≤ NUMBERS_END }
         requires some_pages { 1 ≤ pages }
         requires pages { pages < NUMBERS_END }
         requires unit { unit < NUMBERS_END }
         requires power { (order : ℕ) × (unit ≡ 2 ^ order) }
-        ensures some { IfSome result (IsFound floor pages unit self.now) }
-        ensures none { IfNone result (AllByRecursion (HasNoRoom floor pages unit) self.now) }
-        ensures sorted { AreSorted 0 self.now }
+        ensures some { IfSome result (λ found. IsFound floor pages unit self.old found.0 found.1) }
+        ensures none { IfNone result (AllByRecursion (HasNoRoom floor pages unit) self.old) }
+        ensures unchanged { self.new ≡ self.old }
+        ensures sorted { AreSorted 0 self.old }
     {
-        fit_between(&self.nodes, self.root, floor, NUMBERS_END, pages, unit)
+        self.hand = None;
+        let fit = go_fit(&self.nodes, self.root, floor, pages, unit, &mut self.way)?;
+        self.hand = Some(fit.held);
+        Some((fit.start, self.nodes[fit.held.key].piece))
     }
 
     /// Puts a piece over those that are there: its first page lies in one of them, and its last page. What is left of these stays.

@@ -44,15 +44,15 @@ lowest_at floor from pages unit (x ∷ xs) q ys start o pos n f u r =
       lowest = λ other g high. i.lowest other (fits_tail floor from x (xs ++ q ∷ ys) pages unit other o n.0 pos g high) high;
     }
 
-pub found_above : (floor from pages unit : ℕ) (ps : List Piece) (start : ℕ) → IsOrdered from ps → 1 ≤ pages
-    → IsFound floor pages unit ps start → IsLowestAbove floor ps pages unit start
-found_above floor from pages unit ps start o pos f =
+pub found_above : (floor from pages unit : ℕ) (ps : List Piece) (start : ℕ) (p : Piece) → IsOrdered from ps → 1 ≤ pages
+    → IsFound floor pages unit ps start p → IsLowestAbove floor ps pages unit start
+found_above floor from pages unit ps start p o pos f =
     subst (λ l. IsLowestAbove floor l pages unit start) (sym f.parts)
-    (lowest_at floor from pages unit f.before f.piece f.behind start (subst (λ l. IsOrdered from l) f.parts o) pos f.none f.free f.up
-    f.room)
+    (lowest_at floor from pages unit f.before p f.behind start (subst (λ l. IsOrdered from l) f.parts o) pos f.none f.here.free f.here.up
+    f.here.room)
 
-pub found_lowest : (from pages unit : ℕ) (ps : List Piece) (start : ℕ) → IsOrdered from ps → 1 ≤ pages → IsFound 0 pages unit ps start
-    → IsLowestFit ps pages unit start
-found_lowest from pages unit ps start o pos f =
-    let i = found_above 0 from pages unit ps start o pos f in
+pub found_lowest : (from pages unit : ℕ) (ps : List Piece) (start : ℕ) (p : Piece) → IsOrdered from ps → 1 ≤ pages
+    → IsFound 0 pages unit ps start p → IsLowestFit ps pages unit start
+found_lowest from pages unit ps start p o pos f =
+    let i = found_above 0 from pages unit ps start p o pos f in
     record { fit = i.fit; lowest = λ other g. i.lowest other g (omega arith) }

@@ -1,146 +1,412 @@
--- The way down to the first aligned range: what it finds in what is left, all has.
-use Rattle.std.proofs.Common.{◌≡◌, ℕ, ◌+◌, ◌<◌, ◌≤◌, ◌∷◌, ◌++◌, max, Some, None, IsSome, IsTrue, refl, ap, sym, ◌∙◌, subst, arith}
+-- Through the pieces in their order, to the first aligned range: no piece that was passed has room for one.
+use Rattle.std.proofs.Common.{◌≡◌, ℕ, zero, suc, ◌+◌, ◌*◌, ◌<◌, ◌≤◌, max, Bool, true, false, List, [], ◌∷◌, ◌++◌, length, Option, Some, None}
+use Rattle.std.proofs.Common.{IsSome, refl, inl, inr, ap, sym, ◌∙◌, subst, arith, append_assoc, length-append, slice_set}
+use Rattle.std.proofs.lemmas.List.{append-nil}
 use Rattle.std.specs.List.{AllByRecursion}
 use Rattle.slab.specs.Slab.{Slab, get}
 use Rattle.piece_tree.specs.declared.node.Node.{Node}
 use Rattle.piece_tree.specs.declared.node.Top.{Top}
-use Rattle.piece_tree.specs.declared.piece.TheConstants.{NUMBERS_END}
-use Rattle.piece_tree.specs.Pieces.{AreSorted, IsPiece, is_free}
-use Rattle.piece_tree.specs.Search.{HasNoRoom, IsFound, IsRoundUp}
-use Rattle.piece_tree.specs.Tree.{Shape, Fork, IsTop, Stands, at_root, items}
-use Rattle.piece_tree.proofs.shapes.Beside.{none_empty}
-use Rattle.piece_tree.proofs.shapes.Led.{Roots, node_height, root-falls, root_there, roots}
-use Rattle.piece_tree.proofs.shapes.Sought.{top_root}
-use Rattle.piece_tree.proofs.shapes.Room.{all_behind, found_before, found_behind, found_raised, none_append, none_between, none_raised}
-use Rattle.piece_tree.proofs.shapes.Room.{none_short}
-use Rattle.piece_tree.proofs.shapes.Sorted.{ends_below, sorted_at, sorted_front}
+use Rattle.piece_tree.specs.declared.piece.Piece.{Piece}
+use Rattle.piece_tree.specs.declared.way.Step.{Step}
+use Rattle.piece_tree.specs.Pieces.{AreSorted, IsPiece}
+use Rattle.piece_tree.specs.Search.{HasNoRoom, IsFound, IsNarrowBefore, IsRoundUp, IsStartIn}
+use Rattle.piece_tree.specs.Tree.{Look, Shape, Empty, Fork, IsWhole, Stands, at_root, contents, height_of, items, joint_at, longest_of}
+use Rattle.piece_tree.specs.Tree.{fork, root_of, top_of}
+use Rattle.piece_tree.specs.Way.{Above, Whole, Beside, AreAbove, AreSteps, GoesOn, IsHand, IsStepAbove, back, front, plug, step_at}
+use Rattle.piece_tree.specs.Way.{within}
+use Rattle.piece_tree.proofs.shapes.Forks.{fork-height}
+use Rattle.piece_tree.proofs.shapes.Led.{Roots, place-few, root_there, roots, steps_more}
+use Rattle.piece_tree.proofs.shapes.Mended.{plug-high, plug-items, plug_stands}
+use Rattle.piece_tree.proofs.shapes.Placed.{parts}
+use Rattle.piece_tree.proofs.shapes.Rising.{on-back, within-back, within-front, within-plug}
+use Rattle.piece_tree.proofs.shapes.Room.{none_between, none_raised, none_short}
+use Rattle.piece_tree.proofs.shapes.Sorted.{all_append, ends_below, plug-parts, sorted_at, sorted_from, sorted_front}
+use Rattle.piece_tree.proofs.shapes.Tall.{contents_is, whole-low}
 
--- what is left lies below the place that was come to, and no aligned range is before it
-pub record Fits (nodes : Slab Node) (root at : Top) (floor low end pages unit : ℕ) (t : Shape) : Type 0 where
+-- ---- what was gone through, and what is left
+
+-- of a tree whose left was passed, or wasn't: the pieces that were gone through, and those that weren't
+abbrev pub gone : (passed : Bool) → Shape → List Piece
+gone true Empty = []
+gone true (Fork key p l r) = items l
+gone false t = []
+
+abbrev pub rest : (passed : Bool) → Shape → List Piece
+rest true Empty = []
+rest true (Fork key p l r) = p ∷ items r
+rest false t = items t
+
+-- so far: no piece before the place has room, and those that are left begin at the raised floor or behind
+pub record Fits (way : List Step) (at : Option ℕ) (depth low : ℕ) (passed : Bool) (floor pages unit : ℕ) (t : Shape) : Type 0 where
+  pub path : Above
   pub there : Shape
+  pub is : t ≡ plug path there
+  pub root : at ≡ root_of there
+  pub some : IsSome at
+  pub steps : AreSteps way depth path
+  pub none : AllByRecursion (HasNoRoom floor pages unit) (front path ++ gone passed there)
   pub from : ℕ
-  pub below : IsTop (get nodes) at there
-  pub sorted : AreSorted from (items there)
-  pub high : node_height (at_root (get nodes) at.root) ≤ node_height (at_root (get nodes) root.root)
-  pub found : (start : ℕ) → IsFound low pages unit (items there) start → IsFound floor pages unit (items t) start
-  pub none : AllByRecursion (λ p. p.last < end) (items t) → AllByRecursion (HasNoRoom low pages unit) (items there)
-      → AllByRecursion (HasNoRoom floor pages unit) (items t)
-  pub ends : AllByRecursion (λ p. p.last < end) (items t) → AllByRecursion (λ p. p.last < end) (items there)
+  pub low_is : low ≡ max floor from
+  pub sorted : AreSorted from (rest passed there ++ back path)
 
-abbrev pub IsFitting : Slab Node → Top → Top → ℕ → ℕ → ℕ → ℕ → ℕ → Type 0
-IsFitting nodes root at floor low end pages unit = ((t : Shape) (from : ℕ) → IsTop (get nodes) root t → AreSorted from (items t)
-    → Fits nodes root at floor low end pages unit t) × (low ≤ NUMBERS_END)
+abbrev pub IsFitting : Slab Node → Top → List Step → Option ℕ → ℕ → ℕ → Bool → ℕ → ℕ → ℕ → Type 0
+IsFitting nodes root way at depth low passed floor pages unit =
+    ((t : Shape) → IsWhole nodes root t → Fits way at depth low passed floor pages unit t) × (length way ≡ 14)
 
-pub fitting_start : (nodes : Slab Node) (root : Top) (floor end pages unit : ℕ) → floor ≤ NUMBERS_END
-    → IsFitting nodes root root floor floor end pages unit
-fitting_start nodes root floor end pages unit narrow = (
-  λ t from b s. record {
-    there = t;
-    from = from;
-    below = b;
-    sorted = s;
-    high = omega arith;
-    found = λ start f. f;
-    none = λ ends n. n;
-    ends = λ ends. ends;
-  },
-  narrow,
+some_root : (t : Shape) → 1 ≤ longest_of t → IsSome (root_of t)
+some_root Empty h = absurd (omega arith)
+some_root (Fork key p l r) h = refl
+
+pub fitting_start : (nodes : Slab Node) (root : Top) (way : List Step) (floor pages unit : ℕ) → length way ≡ 14 → 1 ≤ pages
+    → pages ≤ root.longest → IsFitting nodes root way root.root 0 floor false floor pages unit
+fitting_start nodes root way floor pages unit e pos h = (
+  (λ t w.
+      let r : root.root ≡ root_of t = ap (λ (v : Top). v.root) w.here in
+      record {
+        path = Whole;
+        there = t;
+        is = refl;
+        root = r;
+        some = subst (λ o. IsSome o) (sym r) (some_root t (omega (arith, h, ap (λ (v : Top). v.longest) w.here)));
+        steps = refl;
+        none = tt;
+        from = 0;
+        low_is = omega arith;
+        sorted = subst (λ l. AreSorted 0 l) (sym (append-nil (items t))) w.sorted;
+      }),
+  e,
 )
 
--- nothing is left
-pub fitting_end : (nodes : Slab Node) (root at : Top) (floor low end pages unit : ℕ) (t : Shape)
-    → Fits nodes root at floor low end pages unit t → at.root ≡ None → AllByRecursion (λ p. p.last < end) (items t)
-    → AllByRecursion (HasNoRoom floor pages unit) (items t)
-fitting_end nodes root at floor low end pages unit t i e ends =
-    i.none ends (subst (λ x. AllByRecursion (HasNoRoom low pages unit) (items x))
-    (sym (none_empty i.there (top_root i.there i.below.0 ∙ e))) tt)
+-- ---- how much is left: each key before that wasn't tested counts once, and each of a tree that wasn't gone down twice
 
--- all that is free there is too short
-pub fit_short : (nodes : Slab Node) (root at : Top) (floor low end pages unit : ℕ) (t : Shape)
-    (i : Fits nodes root at floor low end pages unit t) → at.longest < pages → AllByRecursion (HasNoRoom low pages unit) (items i.there)
-fit_short nodes root at floor low end pages unit t i h =
-    none_short low pages unit i.there (omega (arith, h, ap (λ (v : Top). v.longest) i.below.0))
+abbrev size : Look → Option ℕ → ℕ
+size look root = length (contents look 14 root)
 
--- ---- at a node
+abbrev size_behind : Look → Option Node → ℕ
+size_behind look None = 0
+size_behind look (Some node) = size look node.right.root
 
-module _ (nodes : Slab Node) (root at : Top) (floor low end pages unit key : ℕ) (t : Shape)
-    (i : Fits nodes root at floor low end pages unit t) (e : at.root ≡ Some key) where
-  pub fit-there : IsSome (get nodes key)
-  fit-there = root_there (get nodes) key i.there (top_root i.there i.below.0 ∙ e) i.below.1
+abbrev counted : (before : Bool) → ℕ → ℕ
+counted true n = 1 + 2 * n
+counted false n = 0
 
-  module _ (node : Node) (f : get nodes key ≡ Some node) where
-    abbrev pub z : Roots key node i.there
-    z = roots (get nodes) key node i.there (top_root i.there i.below.0 ∙ e) i.below.1 f
+-- above a place
+abbrev left_above : Look → List Step → ℕ → ℕ
+left_above look way zero = 0
+left_above look way (suc d) = counted (step_at way d).before (size_behind look (look (step_at way d).key)) + left_above look way d
 
-    stands : Stands (get nodes) (Fork key node.piece z.l z.r)
-    stands = subst (λ x. Stands (get nodes) x) z.is i.below.1
+abbrev left_here : Look → (passed : Bool) → Option ℕ → ℕ
+left_here look true at = 1 + 2 * size_behind look (at_root look at)
+left_here look false at = 2 * size look at
 
-    sorted : AreSorted i.from (items z.l ++ node.piece ∷ items z.r)
-    sorted = subst (λ x. AreSorted i.from (items x)) z.is i.sorted
+abbrev pub how_much : Look → List Step → Option ℕ → ℕ → (passed : Bool) → ℕ
+how_much look way at depth passed = left_above look way depth + left_here look passed at
 
-    pub fit-left : IsTop (get nodes) node.left z.l
-    fit-left = (z.left, stands.3)
+-- the same of shapes
+abbrev above : Above → ℕ
+above Whole = 0
+above (Beside before key p o up) = counted before (length (items o)) + above up
 
-    pub fit-left_sorted : AreSorted i.from (items z.l)
-    fit-left_sorted = sorted_front i.from (items z.l) (node.piece ∷ items z.r) sorted
+abbrev here : (passed : Bool) → Shape → ℕ
+here true Empty = 1
+here true (Fork key p l r) = 1 + 2 * length (items r)
+here false t = 2 * length (items t)
 
-    fit-right_sorted : AreSorted (node.piece.last + 1) (items z.r)
-    fit-right_sorted = (sorted_at i.from (items z.l) node.piece (items z.r) sorted).2
+size_is : (look : Look) (t : Shape) → Stands look t → height_of t ≤ 14 → size look (root_of t) ≡ length (items t)
+size_is look t s h = ap length (contents_is look 14 (root_of t) t refl s h)
 
-    pub fit-piece : IsPiece node.piece
-    fit-piece = stands.1
+behind_is : (look : Look) (key : ℕ) (b : Bool) (p : Piece) (t o : Shape) → look key ≡ Some (joint_at b p (top_of t) (top_of o))
+    → Stands look o → height_of o ≤ 14 → counted b (size_behind look (look key)) ≡ counted b (length (items o))
+behind_is look key true p t o e s h = ap (λ x. counted true (size_behind look x)) e ∙ ap (counted true) (size_is look o s h)
+behind_is look key false p t o e s h = refl
 
-    pub fit-falls : (node_height (at_root (get nodes) node.left.root) < node_height (at_root (get nodes) at.root))
-        × (node_height (at_root (get nodes) node.right.root) < node_height (at_root (get nodes) at.root))
-    fit-falls = root-falls (get nodes) at.root key node i.there e z i.below.1 f
+above_is : (look : Look) (way : List Step) (depth : ℕ) (path : Above) (t : Shape) → AreSteps way depth path → AreAbove look path t
+    → height_of (plug path t) ≤ 14 → left_above look way depth ≡ above path
+above_is look way depth Whole t s a h = ap (left_above look way) s
+above_is look way depth (Beside b key p o up) t s a h =
+    let e : depth ≡ suc s.0 = omega (arith, s.1) in
+    let low : height_of o ≤ 14 = omega (arith, h, plug-high up (fork b key p t o), fork-height b key p t o) in
+    ap (left_above look way) e
+    ∙ ap (λ (x : Step). counted x.before (size_behind look (look x.key)) + left_above look way s.0) s.2
+    ∙ ap (λ n. n + left_above look way s.0) (behind_is look key b p t o a.0 a.3 low)
+    ∙ ap (λ n. counted b (length (items o)) + n) (above_is look way s.0 up (fork b key p t o) s.3 a.4 h)
 
-    -- what lies before the node ends there
-    pub left_ends : AllByRecursion (λ p. p.last < node.piece.first) (items z.l)
-    left_ends = ends_below i.from node.piece.first (items z.l) node.piece (items z.r) sorted (omega arith)
+here_is : (look : Look) (b : Bool) (at : Option ℕ) (t : Shape) → at ≡ root_of t → Stands look t → height_of t ≤ 14
+    → left_here look b at ≡ here b t
+here_is look true at Empty e s h = ap (λ o. 1 + 2 * size_behind look (at_root look o)) e
+here_is look true at (Fork key p l r) e s h =
+    ap (λ o. 1 + 2 * size_behind look (at_root look o)) e ∙ ap (λ o. 1 + 2 * size_behind look o) s.0
+    ∙ ap (λ n. 1 + 2 * n) (size_is look r s.4 (omega (arith, h)))
+here_is look false at t e s h = ap (λ o. 2 * size look o) e ∙ ap (λ n. 2 * n) (size_is look t s h)
 
-    pub found-left : (start : ℕ) → IsFound low pages unit (items z.l) start → IsFound floor pages unit (items t) start
-    found-left start g =
-        i.found start (subst (λ x. IsFound low pages unit (items x) start) (sym z.is)
-        (found_before low pages unit (items z.l) node.piece (items z.r) start g))
+above_within : (inner up : Above) → above (within inner up) ≡ above inner + above up
+above_within Whole up = omega arith
+above_within (Beside b key p o inner) up = omega (arith, above_within inner up)
 
-    pub none-left_short : node.left.longest < pages → AllByRecursion (HasNoRoom low pages unit) (items z.l)
-    none-left_short h = none_short low pages unit z.l (omega (arith, h, ap (λ (v : Top). v.longest) z.left))
+here_some : (b : Bool) (key : ℕ) (p : Piece) (l r : Shape) → 1 ≤ here b (Fork key p l r)
+here_some true key p l r = omega arith
+here_some false key p l r = omega (arith, length-append (items l) (p ∷ items r))
 
-    pub none-left_under : (least : ℕ) → IsRoundUp low unit least → node.piece.first < least + pages
-        → AllByRecursion (HasNoRoom low pages unit) (items z.l)
-    none-left_under least up short = none_between low pages unit least node.piece.first (items z.l) up short left_ends
+here_more : (b : Bool) (key : ℕ) (p : Piece) (l r : Shape) → 2 * length (items r) < here b (Fork key p l r)
+here_more true key p l r = omega arith
+here_more false key p l r = omega (arith, length-append (items l) (p ∷ items r))
 
-    pub found-here : (start : ℕ) → AllByRecursion (HasNoRoom low pages unit) (items z.l) → IsTrue (is_free node.piece.state)
-        → IsRoundUp (max node.piece.first low) unit start → start + pages ≤ node.piece.last + 1
-        → IsFound floor pages unit (items t) start
-    found-here start none free up room =
-        i.found start (subst (λ x. IsFound low pages unit (items x) start) (sym z.is)
-        (record {
-          before = items z.l;
-          piece = node.piece;
-          behind = items z.r;
-          parts = refl;
-          none = none;
-          free = free;
-          up = up;
-          room = room;
-        }))
+-- ---- lists
 
-    -- behind the node, where the floor is raised to where that begins
-    pub fit-right : AllByRecursion (HasNoRoom low pages unit) (items z.l) → HasNoRoom low pages unit node.piece
-        → Fits nodes root node.right floor (max low (node.piece.last + 1)) end pages unit t
-    fit-right none here = record {
-      there = z.r;
-      from = node.piece.last + 1;
-      below = (z.right, stands.4);
-      sorted = fit-right_sorted;
-      high = omega (arith, i.high, fit-falls.1);
-      found = λ start g. i.found start (subst (λ x. IsFound low pages unit (items x) start) (sym z.is)
-          (found_behind low pages unit (items z.l) node.piece (items z.r) start none here
-          (found_raised low (node.piece.last + 1) (node.piece.last + 1) pages unit (items z.r) start fit-right_sorted (omega arith) g)));
-      none = λ ends g. i.none ends (subst (λ x. AllByRecursion (HasNoRoom low pages unit) (items x)) (sym z.is)
-          (none_append low pages unit (items z.l) node.piece (items z.r) none here
-          (none_raised low (node.piece.last + 1) (node.piece.last + 1) pages unit (items z.r) fit-right_sorted (omega arith) g)));
-      ends = λ ends. all_behind (λ p. p.last < end) (items z.l) node.piece (items z.r)
-          (subst (λ x. AllByRecursion (λ p. p.last < end) (items x)) z.is (i.ends ends));
-    }
+sorted_back : (from : ℕ) (xs ys : List Piece) → AreSorted from (xs ++ ys) → AreSorted from ys
+sorted_back from [] ys s = s
+sorted_back from (x ∷ xs) ys s = sorted_from from (x.last + 1) ys (omega (arith, s.0, s.1)) (sorted_back (x.last + 1) xs ys s.2)
+
+rest_sorted : (b : Bool) (from key : ℕ) (p : Piece) (l r : Shape) (ys : List Piece) → AreSorted from (rest b (Fork key p l r) ++ ys)
+    → (from ≤ p.first) × IsPiece p × AreSorted (p.last + 1) (items r ++ ys)
+rest_sorted true from key p l r ys s = s
+rest_sorted false from key p l r ys s =
+    sorted_at from (items l) p (items r ++ ys) (subst (λ x. AreSorted from x) (append_assoc (items l) (p ∷ items r) ys) s)
+
+much : (nodes : Slab Node) (root : Top) (way : List Step) (at : Option ℕ) (depth low : ℕ) (passed : Bool) (floor pages unit : ℕ)
+    (t : Shape) (w : IsWhole nodes root t) (g : Fits way at depth low passed floor pages unit t)
+    → how_much (get nodes) way at depth passed ≡ above g.path + here passed g.there
+much nodes root way at depth low passed floor pages unit t w g =
+    let s = plug_stands (get nodes) g.path g.there (subst (λ x. Stands (get nodes) x) g.is w.stands) in
+    let h = subst (λ x. height_of x ≤ 14) g.is (whole-low nodes root t w) in
+    let a = above_is (get nodes) way depth g.path g.there g.steps s.1 h in
+    let b = here_is (get nodes) passed at g.there g.root s.0 (omega (arith, h, plug-high g.path g.there)) in
+    omega (arith, a, b)
+
+-- ---- at a place
+
+module _ (nodes : Slab Node) (root : Top) (way : List Step) (at : Option ℕ) (depth low : ℕ) (passed : Bool) (floor pages unit : ℕ)
+    (i : IsFitting nodes root way at depth low passed floor pages unit) (t : Shape) (w : IsWhole nodes root t) where
+  abbrev pub g : Fits way at depth low passed floor pages unit t
+  g = i.0 t w
+
+  pub g-stands : Stands (get nodes) g.there × AreAbove (get nodes) g.path g.there
+  g-stands = plug_stands (get nodes) g.path g.there (subst (λ x. Stands (get nodes) x) g.is w.stands)
+
+  g-low : height_of (plug g.path g.there) ≤ 14
+  g-low = subst (λ x. height_of x ≤ 14) g.is (whole-low nodes root t w)
+
+  -- another place, from which on less is left
+  abbrev pub Next : List Step → Option ℕ → ℕ → ℕ → Bool → Type 0
+  Next then to deep next by = (x : Fits then to deep next by floor pages unit t)
+      × (above x.path + here by x.there < above g.path + here passed g.there)
+
+  pub fit-smaller : (then : List Step) (to : Option ℕ) (deep next : ℕ) (by : Bool) → Next then to deep next by
+      → how_much (get nodes) then to deep by < how_much (get nodes) way at depth passed
+  fit-smaller then to deep next by n =
+      let a = much nodes root way at depth low passed floor pages unit t w g in
+      let b = much nodes root then to deep next by floor pages unit t w n.0 in
+      omega (arith, a, b, n.1)
+
+  pub fit-end : at ≡ None → ⊥
+  fit-end e = let s = g.some in absurd (cc)
+
+  module _ (key : ℕ) (e : at ≡ Some key) where
+    pub fit-root : root_of g.there ≡ Some key
+    fit-root = sym g.root ∙ e
+
+    pub fit-there : IsSome (get nodes key)
+    fit-there = root_there (get nodes) key g.there fit-root g-stands.0
+
+    pub fit-few : depth < 14
+    fit-few = place-few way depth key g.path g.there g.steps fit-root g-low
+
+    module _ (node : Node) (f : get nodes key ≡ Some node) where
+      abbrev y : Roots key node g.there
+      y = roots (get nodes) key node g.there fit-root g-stands.0 f
+
+      stands-at : Stands (get nodes) (Fork key node.piece y.l y.r)
+      stands-at = subst (λ x. Stands (get nodes) x) y.is g-stands.0
+
+      sorted-at : (g.from ≤ node.piece.first) × IsPiece node.piece × AreSorted (node.piece.last + 1) (items y.r ++ back g.path)
+      sorted-at = rest_sorted passed g.from key node.piece y.l y.r (back g.path)
+          (subst (λ x. AreSorted g.from (rest passed x ++ back g.path)) y.is g.sorted)
+
+      pub fit-piece : IsPiece node.piece
+      fit-piece = sorted-at.1
+
+      pub fit-low : floor ≤ 1099511627776 → low ≤ 1099511627776
+      fit-low h = omega (arith, g.low_is, h, sorted-at.0, sorted-at.1)
+
+      pub fit-shape : t ≡ plug g.path (Fork key node.piece y.l y.r)
+      fit-shape = g.is ∙ ap (plug g.path) y.is
+
+      fit-all : items t ≡ (front g.path ++ items y.l) ++ node.piece ∷ (items y.r ++ back g.path)
+      fit-all = ap items fit-shape ∙ plug-items g.path (Fork key node.piece y.l y.r) ∙ parts g.path (items y.l) node.piece (items y.r)
+
+      -- before the piece
+      abbrev NoneBefore : Type 0
+      NoneBefore = AllByRecursion (HasNoRoom floor pages unit) (front g.path ++ items y.l)
+
+      before-passed : passed ≡ true → NoneBefore
+      before-passed b = subst (λ x. AllByRecursion (HasNoRoom floor pages unit) (front g.path ++ x))
+          (ap (gone passed) y.is ∙ ap (λ x. gone x (Fork key node.piece y.l y.r)) b) g.none
+
+      module _ (new : passed ≡ false) where
+        none-front : AllByRecursion (HasNoRoom floor pages unit) (front g.path)
+        none-front = subst (λ x. AllByRecursion (HasNoRoom floor pages unit) x)
+            (ap (λ x. front g.path ++ gone x g.there) new ∙ append-nil (front g.path)) g.none
+
+        sorted-new : AreSorted g.from (items y.l ++ node.piece ∷ (items y.r ++ back g.path))
+        sorted-new = subst (λ x. AreSorted g.from x)
+            (ap (λ x. rest x g.there ++ back g.path) new ∙ ap (λ x. items x ++ back g.path) y.is
+            ∙ append_assoc (items y.l) (node.piece ∷ items y.r) (back g.path)) g.sorted
+
+        before-short : node.left.longest < pages → NoneBefore
+        before-short h = all_append (HasNoRoom floor pages unit) (front g.path) (items y.l) none-front
+            (none_short floor pages unit y.l (omega (arith, h, ap (λ (v : Top). v.longest) y.left)))
+
+        before-under : (least : ℕ) → IsRoundUp low unit least → node.piece.first < least + pages → NoneBefore
+        before-under least up short =
+            let ends = ends_below g.from node.piece.first (items y.l) node.piece (items y.r ++ back g.path) sorted-new (omega arith) in
+            all_append (HasNoRoom floor pages unit) (front g.path) (items y.l) none-front
+            (none_raised floor g.from g.from pages unit (items y.l)
+            (sorted_front g.from (items y.l) (node.piece ∷ (items y.r ++ back g.path)) sorted-new) (omega arith)
+            (none_between (max floor g.from) pages unit least node.piece.first (items y.l)
+            (subst (λ n. IsRoundUp n unit least) g.low_is up) short ends))
+
+        -- down before the piece
+        pub go-before : 1 ≤ node.left.longest
+            → Next (slice_set way depth (record { key = key; before = true })) node.left.root (depth + 1) low passed
+        go-before some =
+            let r : node.left.root ≡ root_of y.l = ap (λ (v : Top). v.root) y.left in (
+              record {
+                path = Beside true key node.piece y.r g.path;
+                there = y.l;
+                is = fit-shape;
+                root = r;
+                some = subst (λ o. IsSome o) (sym r) (some_root y.l (omega (arith, some, ap (λ (v : Top). v.longest) y.left)));
+                steps = steps_more way depth key true node.piece y.r g.path g.steps (omega (arith, i.1, fit-few));
+                none = subst (λ b. AllByRecursion (HasNoRoom floor pages unit) (front g.path ++ gone b y.l)) (sym new)
+                    (subst (λ x. AllByRecursion (HasNoRoom floor pages unit) x) (sym (append-nil (front g.path))) none-front);
+                from = g.from;
+                low_is = g.low_is;
+                sorted = subst (λ b. AreSorted g.from (rest b y.l ++ (node.piece ∷ (items y.r ++ back g.path)))) (sym new) sorted-new;
+              },
+              (let a = ap (λ x. here x g.there) new ∙ ap (here false) y.is in
+                  let b = ap (λ x. here x y.l) new in
+                  omega (arith, a, b, length-append (items y.l) (node.piece ∷ items y.r))),
+            )
+
+      pub before-none : (passed ≡ false → IsNarrowBefore low pages unit node) → NoneBefore
+      before-none narrow = by_state passed refl
+        where
+          by_state : (b : Bool) → passed ≡ b → NoneBefore
+          by_state true b = before-passed b
+          by_state false b = elim (narrow b) [ inl h ↦ before-short b h | inr h ↦ before-under b h.0 h.1 h.2 ]
+
+      -- the piece has room
+      pub fit-here : (start : ℕ) → NoneBefore → IsStartIn low pages unit node.piece start
+          → (h : IsHand way (record { key = key; depth = depth }) t) × IsFound floor pages unit (items t) start h.piece
+      fit-here start none s =
+          let same : max node.piece.first low ≡ max node.piece.first floor = omega (arith, g.low_is, sorted-at.0) in (
+            record {
+              path = g.path;
+              piece = node.piece;
+              left = y.l;
+              right = y.r;
+              is = fit-shape;
+              steps = g.steps;
+            },
+            record {
+              before = front g.path ++ items y.l;
+              behind = items y.r ++ back g.path;
+              parts = fit-all;
+              none = none;
+              here = record { free = s.free; up = subst (λ n. IsRoundUp n unit start) same s.up; room = s.room };
+            },
+          )
+
+      -- the piece has none
+      module _ (none : NoneBefore) (no : HasNoRoom low pages unit node.piece) where
+        no-here : HasNoRoom floor pages unit node.piece
+        no-here free x a b c = no free x (omega (arith, a, g.low_is, sorted-at.0)) b c
+
+        raised : (next : ℕ) → next ≡ max low (node.piece.last + 1) → next ≡ max floor (node.piece.last + 1)
+        raised next e = omega (arith, e, g.low_is, sorted-at.0, sorted-at.1)
+
+        none-with : AllByRecursion (HasNoRoom floor pages unit) (front g.path ++ (items y.l ++ node.piece ∷ []))
+        none-with = subst (λ x. AllByRecursion (HasNoRoom floor pages unit) x)
+            (append_assoc (front g.path) (items y.l) (node.piece ∷ []))
+            (all_append (HasNoRoom floor pages unit) (front g.path ++ items y.l) (node.piece ∷ []) none (no-here, tt))
+
+        -- down behind the piece
+        pub go-behind : (next : ℕ) → next ≡ max low (node.piece.last + 1) → (by : Bool) → by ≡ false → 1 ≤ node.right.longest
+            → Next (slice_set way depth (record { key = key; before = false })) node.right.root (depth + 1) next by
+        go-behind next e by new some =
+            let r : node.right.root ≡ root_of y.r = ap (λ (v : Top). v.root) y.right in (
+              record {
+                path = Beside false key node.piece y.l g.path;
+                there = y.r;
+                is = fit-shape;
+                root = r;
+                some = subst (λ o. IsSome o) (sym r) (some_root y.r (omega (arith, some, ap (λ (v : Top). v.longest) y.right)));
+                steps = steps_more way depth key false node.piece y.l g.path g.steps (omega (arith, i.1, fit-few));
+                none = subst (λ b. AllByRecursion (HasNoRoom floor pages unit) ((front g.path ++ (items y.l ++ node.piece ∷ [])) ++ gone b y.r))
+                    (sym new) (subst (λ x. AllByRecursion (HasNoRoom floor pages unit) x)
+                    (sym (append-nil (front g.path ++ (items y.l ++ node.piece ∷ [])))) none-with);
+                from = node.piece.last + 1;
+                low_is = raised next e;
+                sorted = subst (λ b. AreSorted (node.piece.last + 1) (rest b y.r ++ back g.path)) (sym new) sorted-at.2;
+              },
+              (let a = ap (here passed) y.is in
+                  let b = ap (λ x. here x y.r) new in
+                  omega (arith, a, b, here_more passed key node.piece y.l y.r)),
+            )
+
+        -- nothing behind it either
+        module _ (short : node.right.longest < pages) where
+          none-there : AllByRecursion (HasNoRoom floor pages unit) ((front g.path ++ items y.l) ++ node.piece ∷ items y.r)
+          none-there = all_append (HasNoRoom floor pages unit) (front g.path ++ items y.l) (node.piece ∷ items y.r) none
+              (no-here, none_short floor pages unit y.r (omega (arith, short, ap (λ (v : Top). v.longest) y.right)))
+
+          pub none-all : GoesOn false g.path → AllByRecursion (HasNoRoom floor pages unit) (items t)
+          none-all on = subst (λ x. AllByRecursion (HasNoRoom floor pages unit) x)
+              (ap (λ x. (front g.path ++ items y.l) ++ node.piece ∷ x)
+              (sym (append-nil (items y.r)) ∙ ap (λ x. items y.r ++ x) (sym (on-back g.path on))) ∙ sym fit-all) none-there
+
+          -- up to the next piece
+          module _ (up : ℕ) (s : IsStepAbove way true up g.path) (next : ℕ) (high : next ≡ max low (node.piece.last + 1)) where
+            abbrev inside : Shape
+            inside = plug s.inner g.there
+
+            no-back : back s.inner ≡ []
+            no-back = on-back s.inner s.on
+
+            inside-items : front s.up ++ items inside ≡ (front g.path ++ items y.l) ++ node.piece ∷ items y.r
+            inside-items =
+                let a : items inside ≡ front s.inner ++ items g.there =
+                plug-items s.inner g.there ∙ plug-parts s.inner (items g.there)
+                ∙ ap (λ x. (front s.inner ++ items g.there) ++ x) no-back ∙ append-nil (front s.inner ++ items g.there) in
+                ap (λ x. front s.up ++ x) a
+                ∙ sym (append_assoc (front s.up) (front s.inner) (items g.there))
+                ∙ ap (λ x. x ++ items g.there) (sym (ap front s.is ∙ within-front s.inner (Beside true s.key s.piece s.other s.up)))
+                ∙ ap (λ x. front g.path ++ items x) y.is
+                ∙ sym (append_assoc (front g.path) (items y.l) (node.piece ∷ items y.r))
+
+            back-is : back g.path ≡ s.piece ∷ (items s.other ++ back s.up)
+            back-is = ap back s.is ∙ within-back s.inner (Beside true s.key s.piece s.other s.up)
+                ∙ ap (λ x. x ++ (s.piece ∷ (items s.other ++ back s.up))) no-back
+
+            pub go-above : (to : Option ℕ) → to ≡ Some s.key → (by : Bool) → by ≡ true → Next way to up next by
+            go-above to at_it by old = (
+              record {
+                path = s.up;
+                there = Fork s.key s.piece inside s.other;
+                is = g.is ∙ ap (λ x. plug x g.there) s.is ∙ within-plug s.inner (Beside true s.key s.piece s.other s.up) g.there;
+                root = at_it;
+                some = subst (λ o. IsSome o) (sym at_it) refl;
+                steps = s.steps;
+                none = subst (λ b. AllByRecursion (HasNoRoom floor pages unit) (front s.up ++ gone b (Fork s.key s.piece inside s.other)))
+                    (sym old) (subst (λ x. AllByRecursion (HasNoRoom floor pages unit) x) (sym inside-items) none-there);
+                from = node.piece.last + 1;
+                low_is = raised next high;
+                sorted = subst (λ b. AreSorted (node.piece.last + 1) (rest b (Fork s.key s.piece inside s.other) ++ back s.up)) (sym old)
+                    (subst (λ x. AreSorted (node.piece.last + 1) x) back-is
+                    (sorted_back (node.piece.last + 1) (items y.r) (back g.path) sorted-at.2));
+              },
+              (let a = ap (here passed) y.is in
+                  let d = ap (λ x. here x (Fork s.key s.piece inside s.other)) old in
+                  let b = ap above s.is ∙ above_within s.inner (Beside true s.key s.piece s.other s.up) in
+                  omega (arith, a, b, d, here_some passed key node.piece y.l y.r)),
+            )

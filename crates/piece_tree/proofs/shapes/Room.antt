@@ -1,14 +1,13 @@
 -- Whether so many pages have room in pieces, from a floor on, at a multiple of a unit.
 use Rattle.std.proofs.Common.{◌≡◌, ℕ, ◌+◌, ◌-◌, ◌*◌, ◌/◌, ◌%◌, ◌^◌, ◌<◌, ◌≤◌, max, bit_and, false, List, [], ◌∷◌, ◌++◌}
-use Rattle.std.proofs.Common.{ap, sym, ◌∙◌, inl, inr, subst, arith, append_assoc}
+use Rattle.std.proofs.Common.{ap, sym, ◌∙◌, inl, inr, arith}
 use Rattle.std.specs.List.{AllByRecursion}
 use Rattle.std.proofs.lemmas.Nat.{and_mask}
 use Rattle.std.proofs.Math.Nat.{div-add-mod, mul-mod_right, mul-le-mul_left, lt_of_mul-lt-mul_left}
 use Rattle.piece_tree.specs.declared.piece.Piece.{Piece}
 use Rattle.piece_tree.specs.Pieces.{AreSorted, is_free}
-use Rattle.piece_tree.specs.Search.{HasNoRoom, IsFound, IsRoundUp}
+use Rattle.piece_tree.specs.Search.{HasNoRoom, IsRoundUp}
 use Rattle.piece_tree.specs.Tree.{Shape, Empty, Fork, free_pages, items, longest_of}
-use Rattle.piece_tree.proofs.shapes.Sorted.{sorted_at, sorted_front}
 use Rattle.piece_tree.proofs.shapes.Tall.{order}
 
 -- ---- multiples
@@ -87,60 +86,3 @@ none_raised floor low from pages unit (p ∷ ps) o h n = (
   λ free t a b c. n.0 free t (omega (arith, a, o.0, h)) b c,
   none_raised floor low (p.last + 1) pages unit ps o.2 (omega (arith, o.0, o.1, h)) n.1,
 )
-
-pub found_raised : (floor low from pages unit : ℕ) (ps : List Piece) (start : ℕ) → AreSorted from ps → low ≤ from
-    → IsFound (max floor low) pages unit ps start → IsFound floor pages unit ps start
-found_raised floor low from pages unit ps start o h f =
-    let parts : AreSorted from (f.before ++ f.piece ∷ f.behind) = subst (λ l. AreSorted from l) f.parts o in
-    let first : from ≤ f.piece.first = (sorted_at from f.before f.piece f.behind parts).0 in
-    let same : max f.piece.first (max floor low) ≡ max f.piece.first floor = omega (arith, first, h) in
-    record {
-      before = f.before;
-      piece = f.piece;
-      behind = f.behind;
-      parts = f.parts;
-      none = none_raised floor low from pages unit f.before (sorted_front from f.before (f.piece ∷ f.behind) parts) h f.none;
-      free = f.free;
-      up = subst (λ page. IsRoundUp page unit start) same f.up;
-      room = f.room;
-    }
-
--- ---- among others
-
-pub found_before : (floor pages unit : ℕ) (xs : List Piece) (q : Piece) (ys : List Piece) (start : ℕ) → IsFound floor pages unit xs start
-    → IsFound floor pages unit (xs ++ q ∷ ys) start
-found_before floor pages unit xs q ys start f = record {
-  before = f.before;
-  piece = f.piece;
-  behind = f.behind ++ q ∷ ys;
-  parts = ap (λ l. l ++ q ∷ ys) f.parts ∙ append_assoc f.before (f.piece ∷ f.behind) (q ∷ ys);
-  none = f.none;
-  free = f.free;
-  up = f.up;
-  room = f.room;
-}
-
-pub found_behind : (floor pages unit : ℕ) (xs : List Piece) (q : Piece) (ys : List Piece) (start : ℕ)
-    → AllByRecursion (HasNoRoom floor pages unit) xs → HasNoRoom floor pages unit q → IsFound floor pages unit ys start
-    → IsFound floor pages unit (xs ++ q ∷ ys) start
-found_behind floor pages unit xs q ys start a b f = record {
-  before = xs ++ q ∷ f.before;
-  piece = f.piece;
-  behind = f.behind;
-  parts = ap (λ l. xs ++ q ∷ l) f.parts ∙ sym (append_assoc xs (q ∷ f.before) (f.piece ∷ f.behind));
-  none = none_append floor pages unit xs q f.before a b f.none;
-  free = f.free;
-  up = f.up;
-  room = f.room;
-}
-
--- what holds of all pieces holds of those behind one
-pub all_behind : (P : Piece → Type 0) (xs : List Piece) (q : Piece) (ys : List Piece) → AllByRecursion P (xs ++ q ∷ ys)
-    → AllByRecursion P ys
-all_behind P [] q ys h = h.1
-all_behind P (x ∷ xs) q ys h = all_behind P xs q ys h.1
-
--- all pages are below the end of the numbers
-pub all_narrow : (from : ℕ) (ps : List Piece) → AreSorted from ps → AllByRecursion (λ p. p.last < 1099511627776) ps
-all_narrow from [] s = tt
-all_narrow from (p ∷ ps) s = (omega (arith, s.1), all_narrow (p.last + 1) ps s.2)

@@ -5,19 +5,22 @@ use Rattle.slab.specs.Slab.{Slab, get}
 use Rattle.piece_tree.specs.declared.node.Node.{Node}
 use Rattle.piece_tree.specs.declared.node.Top.{Top}
 use Rattle.piece_tree.specs.Pieces.{AreSorted, IsPiece}
-use Rattle.piece_tree.specs.Search.{IsShort, IsShortBefore}
+use Rattle.piece_tree.specs.Search.{IsShortBefore}
 use Rattle.piece_tree.specs.Tree.{Look, Shape, Empty, Fork, IsTop, IsWhole, Stands, at_root, free_pages, items, longest_of}
 use Rattle.piece_tree.proofs.shapes.Beside.{none_empty}
 use Rattle.piece_tree.proofs.shapes.Led.{Roots, node_height, root-falls, root_there, roots}
 use Rattle.piece_tree.proofs.shapes.Sorted.{all_append, all_left, all_map, all_right, begins_above, ends_below, sorted_at, sorted_front}
-use Rattle.piece_tree.proofs.shapes.Sought.{short-all, top_root}
+use Rattle.piece_tree.proofs.shapes.Sought.{top_root}
 
 abbrev pub AreShortBefore : (page pages : ℕ) → Shape → Type 0
 AreShortBefore page pages t = AllByRecursion (IsShortBefore page pages) (items t)
 
 -- where the longest is short
 short_before : (page pages : ℕ) (t : Shape) → longest_of t < pages → AreShortBefore page pages t
-short_before page pages t h = all_map (IsShort pages) (IsShortBefore page pages) (λ p short before. short) (items t) (short-all pages t h)
+short_before page pages Empty h = tt
+short_before page pages (Fork key p l r) h =
+    all_append (IsShortBefore page pages) (items l) (p ∷ items r) (short_before page pages l (omega arith))
+    ((λ before. omega arith), short_before page pages r (omega arith))
 
 -- where all end before the page, the longest is short
 longest_short : (look : Look) (page pages : ℕ) (t : Shape) → Stands look t → 1 ≤ pages → AllByRecursion (λ p. p.last < page) (items t)

@@ -1,6 +1,6 @@
 -- Searches in a tree.
-use Rattle.std.proofs.Common.{◌≡◌, ℕ, ◌+◌, ◌<◌, ◌≤◌, max, Bool, true, false, List, [], ◌∷◌, ◌++◌, length, Option, Some, None, IfSome, refl}
-use Rattle.std.proofs.Common.{ap, sym, ◌∙◌, subst, arith, append_assoc, slice_set, IsSome}
+use Rattle.std.proofs.Common.{◌≡◌, ℕ, ◌+◌, ◌<◌, ◌≤◌, true, false, List, [], ◌∷◌, ◌++◌, Option, Some, None, IfSome, refl}
+use Rattle.std.proofs.Common.{ap, sym, ◌∙◌, subst, arith, IsSome}
 use Rattle.std.proofs.lemmas.Bool.Decides.{nat_tests}
 use Rattle.std.proofs.lemmas.List.{append-nil}
 use Rattle.std.specs.List.{AllByRecursion}
@@ -8,18 +8,17 @@ use Rattle.slab.specs.Slab.{Slab, get}
 use Rattle.piece_tree.specs.declared.node.Top.{Top}
 use Rattle.piece_tree.specs.declared.piece.Piece.{Piece}
 use Rattle.piece_tree.specs.declared.node.Node.{Node}
-use Rattle.piece_tree.specs.declared.way.Step.{Step}
-use Rattle.piece_tree.specs.Pieces.{AreSorted, IsPiece}
-use Rattle.piece_tree.specs.Search.{IsFirstLong, IsShort, first_of, pieces_from}
-use Rattle.piece_tree.specs.Tree.{Shape, Empty, Fork, items, height_of, longest_of, free_pages, root_of, top_of, at_root, Stands}
+use Rattle.piece_tree.specs.Pieces.{AreSorted}
+use Rattle.piece_tree.specs.Search.{first_of, pieces_from}
+use Rattle.piece_tree.specs.Tree.{Shape, Empty, Fork, items, root_of, top_of, at_root, Stands}
 use Rattle.piece_tree.specs.Tree.{IsWhole}
 use Rattle.piece_tree.specs.Tree.{pieces_of}
-use Rattle.piece_tree.specs.Way.{Above, Whole, Beside, plug, front, back, AreSteps, IsHand}
-use Rattle.piece_tree.proofs.shapes.Led.{Roots, roots, root_there, root-falls, child-falls, node_height, place-few, steps_more}
+use Rattle.piece_tree.specs.Way.{Above, Whole, Beside, plug, front, back}
+use Rattle.piece_tree.proofs.shapes.Led.{Roots, roots, root_there, root-falls, node_height}
 use Rattle.piece_tree.proofs.shapes.Beside.{none_empty}
 use Rattle.piece_tree.proofs.shapes.Mended.{plug-items, plug_stands}
 use Rattle.piece_tree.proofs.shapes.Sorted.{all_append, plug-parts, sorted_at, sorted_there}
-use Rattle.piece_tree.proofs.shapes.Tall.{whole-low, whole_view}
+use Rattle.piece_tree.proofs.shapes.Tall.{whole_view}
 
 -- ---- the first piece from a page on
 
@@ -113,138 +112,6 @@ narrow-end nodes root page at found t w q e =
     ∙ from-skip page (front q.path) (back q.path) q.before
     ∙ from-all page (back q.path) (subst (λ o. IfSome o (λ p. page ≤ p.first)) q.behind q.from)))
 
--- ---- the first piece with so many free pages
-
--- where none is so long
-pub short-all : (pages : ℕ) (t : Shape) → longest_of t < pages → AllByRecursion (IsShort pages) (items t)
-short-all pages Empty h = tt
-short-all pages (Fork key p l r) h =
-    all_append (IsShort pages) (items l) (p ∷ items r) (short-all pages l (omega arith)) (omega arith, short-all pages r (omega arith))
-
 -- the root that is shown
 pub top_root : {top : Top} (t : Shape) → top ≡ top_of t → root_of t ≡ top.root
 top_root t e = sym (ap (λ (v : Top). v.root) e)
-
--- so far: what comes before a place is short, and the tree there isn't
-pub record GoesLong (way : List Step) (pages : ℕ) (at : Option ℕ) (depth : ℕ) (t : Shape) : Type 0 where
-  pub path : Above
-  pub there : Shape
-  pub is : t ≡ plug path there
-  pub root : at ≡ root_of there
-  pub steps : AreSteps way depth path
-  pub short : AllByRecursion (IsShort pages) (front path)
-  pub long : pages ≤ longest_of there
-
-abbrev pub IsGoingLong : Slab Node → Top → ℕ → List Step → Option ℕ → ℕ → Type 0
-IsGoingLong nodes root pages way at depth =
-    ((t : Shape) → IsWhole nodes root t → GoesLong way pages at depth t) × (length way ≡ 14)
-
-pub long_start : (nodes : Slab Node) (root : Top) (pages : ℕ) (way : List Step) → length way ≡ 14 → pages ≤ root.longest
-    → IsGoingLong nodes root pages way root.root 0
-long_start nodes root pages way e h = (
-  (λ t w. record {
-    path = Whole;
-    there = t;
-    is = refl;
-    root = ap (λ (v : Top). v.root) w.here;
-    steps = refl;
-    short = tt;
-    long = omega (arith, h, ap (λ (v : Top). v.longest) w.here);
-  }),
-  e,
-)
-
-module _ (nodes : Slab Node) (root : Top) (pages : ℕ) (way : List Step) (at : Option ℕ) (depth key : ℕ)
-    (i : IsGoingLong nodes root pages way at depth) (e : at ≡ Some key) (t : Shape) (w : IsWhole nodes root t) where
-  abbrev g : GoesLong way pages at depth t
-  g = i.0 t w
-
-  pub long-root : root_of g.there ≡ Some key
-  long-root = sym g.root ∙ e
-
-  pub long-stands : Stands (get nodes) g.there
-  long-stands = (plug_stands (get nodes) g.path g.there (subst (λ x. Stands (get nodes) x) g.is w.stands)).0
-
-  pub long-there : IsSome (get nodes key)
-  long-there = root_there (get nodes) key g.there long-root long-stands
-
-  pub long-few : depth < 14
-  long-few = place-few way depth key g.path g.there g.steps long-root (subst (λ x. height_of x ≤ 14) g.is (whole-low nodes root t w))
-
-  module _ (node : Node) (f : get nodes key ≡ Some node) where
-    abbrev y : Roots key node g.there
-    y = roots (get nodes) key node g.there long-root long-stands f
-
-    stands-at : Stands (get nodes) (Fork key node.piece y.l y.r)
-    stands-at = subst (λ x. Stands (get nodes) x) y.is long-stands
-
-    pub long-left : node.left.longest ≡ longest_of y.l
-    long-left = ap (λ (v : Top). v.longest) y.left
-
-    pub long-piece : IsPiece node.piece
-    long-piece = stands-at.1
-
-    long-is : pages ≤ max (free_pages node.piece) (max (longest_of y.l) (longest_of y.r))
-    long-is = subst (λ x. pages ≤ longest_of x) y.is g.long
-
-    pub long-smaller : (b : Bool) (child : Top) → (b ≡ true → child ≡ node.left) → (b ≡ false → child ≡ node.right)
-        → node_height (at_root (get nodes) child.root) < node_height (at_root (get nodes) at)
-    long-smaller = child-falls (get nodes) at key node g.there e y long-stands f
-
-    pub long-on : (b : Bool) (child : Top) → (b ≡ true → child ≡ node.left) → (b ≡ false → child ≡ node.right)
-        → (b ≡ true → pages ≤ longest_of y.l) → (b ≡ false → (longest_of y.l < pages) × (free_pages node.piece < pages))
-        → GoesLong (slice_set way depth (record { key = key; before = b })) pages child.root (depth + 1) t
-    long-on true child left right on off = record {
-      path = Beside true key node.piece y.r g.path;
-      there = y.l;
-      is = g.is ∙ ap (plug g.path) y.is;
-      root = ap (λ (v : Top). v.root) (left refl ∙ y.left);
-      steps = steps_more way depth key true node.piece y.r g.path g.steps (omega (arith, i.1, long-few));
-      short = g.short;
-      long = on refl;
-    }
-    long-on false child left right on off =
-        let h = off refl in
-        record {
-          path = Beside false key node.piece y.l g.path;
-          there = y.r;
-          is = g.is ∙ ap (plug g.path) y.is;
-          root = ap (λ (v : Top). v.root) (right refl ∙ y.right);
-          steps = steps_more way depth key false node.piece y.l g.path g.steps (omega (arith, i.1, long-few));
-          short = all_append (IsShort pages) (front g.path) (items y.l ++ node.piece ∷ []) g.short
-              (all_append (IsShort pages) (items y.l) (node.piece ∷ []) (short-all pages y.l h.0) (h.1, tt));
-          long = omega (arith, long-is, h);
-        }
-
-    -- it is the piece there
-    pub long-here : longest_of y.l < pages → pages ≤ free_pages node.piece
-        → (h : IsHand way (record { key = key; depth = depth }) t) × IsFirstLong pages (items t) h.piece
-    long-here none h = (
-      record {
-        path = g.path;
-        piece = node.piece;
-        left = y.l;
-        right = y.r;
-        is = g.is ∙ ap (plug g.path) y.is;
-        steps = g.steps;
-      },
-      record {
-        before = front g.path ++ items y.l;
-        behind = items y.r ++ back g.path;
-        parts = ap items g.is ∙ ap (λ x. items (plug g.path x)) y.is ∙ plug-items g.path (Fork key node.piece y.l y.r)
-            ∙ plug-parts g.path (items y.l ++ node.piece ∷ items y.r)
-            ∙ regroup (front g.path) (items y.l) node.piece (items y.r) (back g.path);
-        short = all_append (IsShort pages) (front g.path) (items y.l) g.short (short-all pages y.l none);
-        long = h;
-      },
-    )
-      where
-        regroup : (fs ls : List Piece) (x : Piece) (rs bs : List Piece) → (fs ++ (ls ++ x ∷ rs)) ++ bs ≡ (fs ++ ls) ++ x ∷ (rs ++ bs)
-        regroup fs ls x rs bs = simp append_assoc
-
-pub long-end : (way : List Step) (pages : ℕ) (at : Option ℕ) (depth : ℕ) (t : Shape) → GoesLong way pages at depth t → at ≡ None
-    → 1 ≤ pages → ⊥
-long-end way pages at depth t g e pos =
-    let z = none_empty g.there (sym g.root ∙ e) in
-    let h : pages ≤ longest_of Empty = subst (λ x. pages ≤ longest_of x) z g.long in
-    omega arith

@@ -1,18 +1,24 @@
-use Rattle.std.proofs.Common.{◌≡◌, ℕ, ◌+◌, ◌<◌, List, arith, inl, inr, subst}
+use Rattle.std.proofs.Common.{◌≡◌, ℕ, ◌+◌, ◌-◌, ◌<◌, List, if◌then◌else◌, ap, arith, inl, inr, subst}
 use Rattle.std.specs.List.{AllByRecursion}
 use Rattle.dmatypes.specs.World.{IsIn}
 use Rattle.piece_tree.specs.declared.piece.PageState.TheVariants.{Free, Live}
 use Rattle.piece_tree.specs.declared.piece.Piece.{Piece}
+use Rattle.piece_tree.specs.Pieces.{is_free}
 use Rattle.piece_tree.specs.Search.{IsShortBefore}
+use Rattle.piece_tree.specs.Tree.{free_pages}
 use Rattle.iova.specs.Pieces.{IsOrdered, NoneFreeBelow, pages_as}
 use Rattle.iova.specs.Stored.{stored}
 use Rattle.iova.proofs.Among.{in_all, in_le}
 use Rattle.iova.proofs.FirstFreed.{alone_lowest}
 use Rattle.iova.proofs.Pieces.{order}
-use Rattle.iova.proofs.searches.FirstLong.{short_ends}
 use Rattle.iova.proofs.freeing.low_of_first.Goals as goal
 use Rattle.iova.proofs.freeing.low_of_first.Goals.{then-pages-eq1-via-then-pages-eq1}
 use Rattle.iova.proofs.freeing.low_of_first.Goals.{then-pages-eq1-via-else-pages-eq1+then-are_short_before}
+
+-- a free piece that is short ends before so many pages of it would
+short_ends : (pages : ℕ) (p : Piece) → free_pages p < pages → p.state ≡ Free → p.last + 1 < p.first + pages
+short_ends pages p short free =
+    let e : free_pages p ≡ p.last + 1 - p.first = ap (λ s. if is_free s then p.last + 1 - p.first else 0) free in omega (arith, short, e)
 
 ends_before : (page pages : ℕ) (ps : List Piece) → AllByRecursion (IsShortBefore page pages) ps → (p : Piece) → IsIn p ps → p.state ≡ Free
     → p.first < page → p.last + 1 < p.first + pages

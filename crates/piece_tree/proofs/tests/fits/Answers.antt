@@ -1,5 +1,5 @@
 use Rattle.std.proofs.Common.{refl}
 use Rattle.piece_tree.proofs.tests.fits.Goals as goal
 
-pub first_fit-requires-clause-power : goal.first_fit-requires-clause-power
-first_fit-requires-clause-power c = (2, refl)
+pub seek_fit-requires-clause-power : goal.seek_fit-requires-clause-power
+seek_fit-requires-clause-power c = (2, refl)

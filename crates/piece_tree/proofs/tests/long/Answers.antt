@@ -1,0 +1,5 @@
+use Rattle.std.proofs.Common.{refl}
+use Rattle.piece_tree.proofs.tests.long.Goals as goal
+
+pub seek_fit-requires-clause-power : goal.seek_fit-requires-clause-power
+seek_fit-requires-clause-power c = (0, refl)
