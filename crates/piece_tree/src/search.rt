@@ -1,6 +1,6 @@
 //! Where pieces are.
 
-ghost use Rattle.std.specs.Prelude.{◌≡◌, ◌+◌, ◌^◌, ◌<◌, ◌≤◌, ◌↔◌, ◌++◌, ℕ, List, IfSome, IfNone, IsTrue, true, false};
+ghost use Rattle.std.specs.Prelude.{◌≡◌, ◌+◌, ◌^◌, ◌<◌, ◌≤◌, ◌↔◌, ℕ, IfSome, IfNone, IsTrue, true, false};
 ghost use Rattle.std.specs.List.{AllByRecursion};
 ghost use Rattle.piece_tree.specs.Pieces.{IsPiece, piece_at};
 ghost use Rattle.piece_tree.specs.Search.{HasNoRoom, IsFound, IsNarrowBefore, IsRoundUp, IsShortBefore, IsStartIn};
