@@ -112,7 +112,12 @@ EndsWith history call reply = (before : List Event) × (history ≡ before ++ ev
 abbrev pub AllSaw : List Event → List Share → Type 0
 AllSaw history shares = All (λ (s : Share). IsPrefix s.seen history) shares
 
--- ---- what is handed on
+-- ---- what is kept, and what is handed on
+
+-- the events that are kept, and for how many there is room
+pub record Kept : Type 0 where
+  pub events : List Event
+  pub room : ℕ
 
 -- events that were handed on, and how many stand before them in the history
 pub record Epoch : Type 0 where

@@ -1,4 +1,5 @@
 pub mod Called
 pub mod Kept
+pub mod Lending
 pub mod Report
 pub mod Words

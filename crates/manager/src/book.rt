@@ -17,6 +17,7 @@ ghost use Rattle.manager.specs.Report.{report_text};
 use crate::config::Config;
 use crate::entering::enter;
 use crate::epoch::Epoch;
+use crate::kept::Kept;
 use crate::manager::History;
 use crate::owner::{Handing, Owner};
 use crate::port::{Port, Rows};
@@ -47,7 +48,7 @@ pub struct Book<B: Owner> {
     // In a place of its own, since it is large and whoever has a book moves it.
     state: Box<State>,
     // The end of the history. All of it stands in the desk's, which only contracts see.
-    kept: Vec<Event>,
+    kept: Kept,
     handed: u64,
     // How long the history is when there is no room left: a number that a call need not add up.
     end: u64,
@@ -59,7 +60,7 @@ pub struct Book<B: Owner> {
 }
 
 impl<B: Owner> Model for Book<B> {
-    ghost use Rattle.std.specs.Prelude.{◌≡◌, ◌+◌, ◌≤◌, drop, length, min, vec_capacity};
+    ghost use Rattle.std.specs.Prelude.{◌≡◌, ◌+◌, ◌≤◌, drop, length, min};
     ghost use Rattle.dmatypes.specs.declared.limits.TheConstants.{CALLS_END};
     ghost use Rattle.manager.specs.Kept.{Book, IsKept};
 
@@ -69,9 +70,9 @@ impl<B: Owner> Model for Book<B> {
 
     ghost invariant = { λ b. IsKept B.frames B.room B.mode B.most
         (record { history = b.desk.history; state = b.state.value; last = b.desk.last; handed = b.handed })
-        × (b.room ≡ B.room) × (B.room ≤ vec_capacity b.kept) × (B.most ≤ CALLS_END) × (b.counted.total ≡ length b.desk.history)
+        × (b.room ≡ B.room) × (B.room ≤ b.kept.room) × (B.most ≤ CALLS_END) × (b.counted.total ≡ length b.desk.history)
         × (1 ≤ B.shares) × (B.shares ≡ B.parts) × (b.desk.rows ≡ B.rows) × (B.rows.frames ≡ B.frames)
-        × (b.kept.items ≡ drop b.handed b.desk.history) × (b.most ≡ B.most) × (b.end ≡ min (b.handed + B.room) B.most)
+        × (b.kept.events ≡ drop b.handed b.desk.history) × (b.most ≡ B.most) × (b.end ≡ min (b.handed + B.room) B.most)
         × (b.handing.total ≡ b.handed) × (1 ≤ B.room) };
 }
 
@@ -100,7 +101,7 @@ impl<B: Owner> Book<B> {
     {
         let (counted, whole) = blank.open::<B>();
         let (handing, part) = handing.open::<Handing<B>>();
-        let kept = Vec::with_capacity(alloc, config.calls() as usize)?;
+        let kept = Kept::new(alloc, config.calls() as usize)?;
         let epoch = Epoch::new(alloc, config, part)?;
         let shares = shares_of(alloc, whole, passes)?;
         let state = new_state(alloc, config.frames(), config.is_caching())?;
@@ -226,8 +227,8 @@ impl<B: Owner> Book<B> {
         desk.tell(&rows.words, &mut mine.pass);
         handing.audit(&mut epoch.part);
         epoch.clear();
-        mem::swap(kept, &mut epoch.events);
-        let more = epoch.events.len() as u64;
+        mem::swap(kept, &mut epoch.kept);
+        let more = epoch.kept.len() as u64;
         handing.add(&mut epoch.part, more);
         *handed += more;
         *end = (*handed + *room).min(*most);
@@ -318,13 +319,7 @@ impl<B: Owner> Book<B> {
             return Err(HistoryFull { by_a_book: () });
         }
         // The event is made in its place, so that the call is moved once; its reply is put there below.
-        kept.push_reserved(Event {
-            call,
-            reply: Reply::Pending,
-        });
-        let Some(event) = kept.last_mut() else {
-            unreachable!()
-        };
+        let event = kept.enter(call);
         let Answer { reply, detail } = state.perform(&event.call);
         event.reply = reply;
         // It changes nothing: its contract says what every state keeps.

@@ -4,6 +4,7 @@ ghost use Rattle.std.specs.Prelude.{◌≡◌, [], IfOk};
 ghost use Rattle.manager.specs.Kept.{new_epoch, upto};
 
 use crate::config::Config;
+use crate::kept::Kept;
 use crate::owner::{Handing, Owner};
 use dmatypes::Event;
 use std::alloc::{AllocError, Global};
@@ -16,22 +17,22 @@ use std::sync::ledger;
 #[derive(Drop)]
 pub struct Epoch<B: Owner> {
     pub(crate) first: u64,
-    pub(crate) events: Vec<Event>,
+    pub(crate) kept: Kept,
     // All of the ledger: nobody else has events that were handed on.
     pub(crate) part: ledger::Share<Handing<B>>,
 }
 
 impl<B: Owner> Model for Epoch<B> {
-    ghost use Rattle.std.specs.Prelude.{◌≡◌, ◌+◌, ◌<◌, ◌≤◌, vec_capacity, vec_len};
+    ghost use Rattle.std.specs.Prelude.{◌≡◌, ◌+◌, ◌<◌, ◌≤◌, length};
     ghost use Rattle.dmatypes.specs.declared.limits.TheConstants.{CALLS_END};
     ghost use Rattle.manager.specs.Kept.{Epoch};
 
     ghost Value = { Epoch };
 
-    ghost view = { λ e. record { first = e.first; events = e.events.items } };
+    ghost view = { λ e. record { first = e.first; events = e.kept.events } };
 
-    ghost invariant = { λ e. (B.room < B.most → B.room ≤ vec_capacity e.events) × (e.first + vec_len e.events ≤ CALLS_END)
-        × (e.part.parts ≡ 1) × (e.part.amount ≡ e.first + vec_len e.events) };
+    ghost invariant = { λ e. (B.room < B.most → B.room ≤ e.kept.room) × (e.first + length e.kept.events ≤ CALLS_END)
+        × (e.part.parts ≡ 1) × (e.part.amount ≡ e.first + length e.kept.events) };
 }
 
 impl<B: Owner> Epoch<B> {
@@ -52,7 +53,7 @@ impl<B: Owner> Epoch<B> {
         };
         Ok(Epoch {
             first: 0,
-            events: Vec::with_capacity(alloc, room as usize)?,
+            kept: Kept::new(alloc, room as usize)?,
             part,
         })
     }
@@ -68,21 +69,21 @@ impl<B: Owner> Epoch<B> {
     pub fn events(&self) -> &[Event]
         ensures { result.now ≡ self.now.events }
     {
-        self.events.as_slice()
+        self.kept.as_slice()
     }
 
     /// How many events of the history there are up to the end of these.
     pub fn upto(&self) -> u64
         ensures { result ≡ upto self.now }
     {
-        self.first + self.events.len() as u64
+        self.first + self.kept.len() as u64
     }
 
     /// Forgets the events, and keeps the room and the place after them.
     pub fn clear(&mut self)
         ensures { self.new ≡ record { first = upto self.old; events = [] } }
     {
-        self.first += self.events.len() as u64;
-        self.events.clear();
+        self.first += self.kept.len() as u64;
+        self.kept.clear();
     }
 }

@@ -32,6 +32,7 @@ mod calls;
 mod config;
 mod entering;
 mod epoch;
+mod kept;
 pub mod laws;
 mod manager;
 mod owner;

@@ -240,8 +240,6 @@ impl<B: Owner> Manager<B> {
         ensures seen { IsPrefix mine.old.seen mine.new.seen × (mine.new.calls ≡ mine.old.calls) }
         ensures legal { IsLegal B.frames mine.new.seen }
     {
-        // They are dropped before the lock.
-        epoch.clear();
         self.book(rt).hand_on(rows, mine, epoch);
     }
 

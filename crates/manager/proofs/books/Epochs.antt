@@ -6,10 +6,10 @@ use Rattle.dmatypes.specs.declared.reply.Event.{Event}
 use Rattle.manager.specs.Kept.{AreFrom, Epoch, events_of}
 
 -- one event more is kept
-pub kept_more : (handed : ℕ) (history now kept kept' : List Event) (e : Event) → handed ≤ length history → kept ≡ drop handed history
-    → kept' ≡ kept ++ e ∷ [] → now ≡ history ++ e ∷ [] → kept' ≡ drop handed now
-kept_more handed history now kept kept' e le was more is =
-    more ∙ ap (λ (l : List Event). l ++ e ∷ []) was ∙ sym (drop-append-le handed history (e ∷ []) le) ∙ sym (ap (drop handed) is)
+pub kept_more : (handed : ℕ) (history now kept : List Event) (e : Event) → handed ≤ length history → kept ≡ drop handed history
+    → now ≡ history ++ e ∷ [] → kept ++ e ∷ [] ≡ drop handed now
+kept_more handed history now kept e le was is =
+    ap (λ (l : List Event). l ++ e ∷ []) was ∙ sym (drop-append-le handed history (e ∷ []) le) ∙ sym (ap (drop handed) is)
 
 -- all events are handed on or kept
 pub all_told : (handed : ℕ) (history kept : List Event) → handed ≤ length history → kept ≡ drop handed history

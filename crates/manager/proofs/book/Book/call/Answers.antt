@@ -1,7 +1,4 @@
-use Rattle.std.proofs.Common.{◌≡◌, ◌<◌, ◌-◌, ◌∙◌, ◌∷◌, ◌++◌, [], ap, length, length-append, set, subst, arith}
-use Rattle.std.proofs.Math.Seq.{set-append_seam}
-use Rattle.std.specs.Vec.{vec_len}
-use Rattle.dmatypes.specs.declared.reply.Reply.TheVariants.{Pending}
+use Rattle.std.proofs.Common.{◌≡◌, ◌<◌, ◌∙◌, ◌∷◌, [], ap, length, length-append, subst, arith}
 use Rattle.dmatypes.specs.History.{event}
 use Rattle.engine.specs.State.{State}
 use Rattle.engine.specs.Steps.{Does}
@@ -17,7 +14,7 @@ pub enter-requires-clause-legal : goal.enter-requires-clause-legal
 enter-requires-clause-legal g c =
     let i = c.self.invariant in
     let s = c.self.inside in
-    let k = c.in-Some.event.now.call in
+    let k = c.enter-event.result.now.call in
     let frames : s.desk.rows.frames ≡ g.B.Owner.frames = ap (λ (r : Rows). r.frames) i.7 ∙ i.8 in
     let a : Book = record { history = s.desk.history; state = s.state.value; last = s.desk.last; handed = s.handed } in
     rw frames
@@ -30,7 +27,7 @@ pub enter-requires-clause-state : goal.enter-requires-clause-state
 enter-requires-clause-state g c =
     let i = c.self.invariant in
     let s = c.self.inside in
-    let k = c.in-Some.event.now.call in
+    let k = c.enter-event.result.now.call in
     let frames : s.desk.rows.frames ≡ g.B.Owner.frames = ap (λ (r : Rows). r.frames) i.7 ∙ i.8 in
     let a : Book = record { history = s.desk.history; state = s.state.value; last = s.desk.last; handed = s.handed } in
     rw frames
@@ -44,27 +41,22 @@ invariant_of-self-2 g c =
     let i = c.self.invariant in
     let s = c.self.inside in
     let a : Book = record { history = s.desk.history; state = s.state.value; last = s.desk.last; handed = s.handed } in
-    let told = all_told s.handed s.desk.history s.kept.items i.0.begun i.9 in
+    let told = all_told s.handed s.desk.history s.kept.events i.0.begun i.9 in
     let less : length s.desk.history < end_of g.B.Owner.room g.B.Owner.most a =
     omega (arith, told, i.0.within, i.11, c.if-before-end.false) in
-    let k = c.in-Some.event.now.call in
+    let k = c.enter-event.result.now.call in
     let frames : s.desk.rows.frames ≡ g.B.Owner.frames = ap (λ (r : Rows). r.frames) i.7 ∙ i.8 in
     let same : c.tell-2.new.self ≡ c.enter.new.desk = c.tell-2.ensures.same.0 in
     let history = ap (λ (d : Desk). d.history) same ∙ c.enter.ensures.history in
     let lawful : AreLawful (IsLawfulAfter g.B.Owner.frames) c.tell-2.new.self.history c.tell-2.new.self.last =
-    rw (same, ← frames) c.enter.ensures.lawful in
-    let last : vec_len c.push_reserved.new.self - 1 ≡ length s.kept.items = omega (arith, c.push_reserved.ensures.len) in
-    let placed : set c.push_reserved.new.self.items (vec_len c.push_reserved.new.self - 1) (event k c.perform-reply.result.reply)
-    ≡ s.kept.items ++ event k c.perform-reply.result.reply ∷ [] =
-    rw (last, c.push_reserved.ensures.items)
-    (set-append_seam s.kept.items (event c.args.call Pending) [] (event k c.perform-reply.result.reply)) in (
+    rw (same, ← frames) c.enter.ensures.lawful in (
       IsKept-push g.B.Owner.frames g.B.Owner.room g.B.Owner.mode g.B.Owner.most a (event k c.perform-reply.result.reply)
           c.perform-reply.new.self c.tell-2.new.self.history c.tell-2.new.self.last history i.0 less
           (subst (λ (s : State). Does s k c.perform-reply.result.reply c.perform-reply.new.self) c.as_mut-state.ensures.value
           c.perform-reply.ensures.does)
           c.keeps.ensures lawful,
       i.1,
-      omega (arith, i.2, c.push_reserved.ensures.capacity),
+      i.2,
       i.3,
       omega (
         arith,
@@ -77,9 +69,7 @@ invariant_of-self-2 g c =
       i.6,
       ap (λ (d : Desk). d.rows) same ∙ c.enter.ensures.rows ∙ i.7,
       i.8,
-      kept_more s.handed s.desk.history c.tell-2.new.self.history s.kept.items
-          (set c.push_reserved.new.self.items (vec_len c.push_reserved.new.self - 1) (event k c.perform-reply.result.reply)) _ i.0.begun i.9
-          placed history,
+      kept_more s.handed s.desk.history c.tell-2.new.self.history s.kept.events _ i.0.begun i.9 history,
       i.10,
       i.11,
       i.12,
@@ -91,10 +81,10 @@ returns-clause-kept g c =
     let i = c.self.invariant in
     let s = c.self.inside in
     let a : Book = record { history = s.desk.history; state = s.state.value; last = s.desk.last; handed = s.handed } in
-    let told = all_told s.handed s.desk.history s.kept.items i.0.begun i.9 in
+    let told = all_told s.handed s.desk.history s.kept.events i.0.begun i.9 in
     let less : length s.desk.history < end_of g.B.Owner.room g.B.Owner.most a =
     omega (arith, told, i.0.within, i.11, c.if-before-end.false) in
-    let k = c.in-Some.event.now.call in
+    let k = c.enter-event.result.now.call in
     let frames : s.desk.rows.frames ≡ g.B.Owner.frames = ap (λ (r : Rows). r.frames) i.7 ∙ i.8 in
     let same : c.tell-2.new.self ≡ c.enter.new.desk = c.tell-2.ensures.same.0 in
     let history = ap (λ (d : Desk). d.history) same ∙ c.enter.ensures.history in
