@@ -1,13 +1,6 @@
 -- A piece that came free is the lowest fit for as many pages, where no free piece before it fits them.
-use Rattle.std.proofs.Common.{◌≡◌, ℕ, ◌+◌, ◌%◌, ◌<◌, ◌≤◌, refl, ap, ◌∙◌, inl, inr, subst, arith}
-use Rattle.dmatypes.specs.World.{IsIn}
-use Rattle.iova.specs.declared.ends.Ends.{Ends}
-use Rattle.piece_tree.specs.declared.piece.PageState.TheVariants.{Free, Live}
-use Rattle.piece_tree.specs.declared.piece.Piece.{Piece}
-use Rattle.piece_tree.specs.Freed.{free_start, widened, with_free}
-use Rattle.iova.specs.Pieces.{NoneFreeBelow}
-use Rattle.iova.specs.Space.{Space, IsLowestFit, IsSpace}
-use Rattle.iova.specs.Pieces.{pages_as}
+use Rattle.iova.proofs.Names.{◌≡◌, ℕ, ◌+◌, ◌%◌, ◌<◌, ◌≤◌, refl, ap, sym, ◌∙◌, inl, inr, subst, arith, IsIn, Ends, Free, Live, Piece}
+use Rattle.iova.proofs.Names.{free_start, widened, with_free, NoneFreeBelow, Space, IsLowestFit, IsSpace, pages_as}
 use Rattle.iova.proofs.Pieces.{order}
 use Rattle.iova.proofs.Among.{in_one, put_only, put_piece}
 use Rattle.iova.proofs.FreeRange.{free_start_free}
@@ -42,16 +35,13 @@ module _ (a : Space) (pages : Ends) (sp : IsSpace a) (i : IsIn (pages_as pages L
       subst (λ n. IsLowestFit (with_free (pages_as pages Live) a.pieces) wanted unit n) alone
       (front_first m wanted unit (with_free (pages_as pages Live) a.pieces) s.ordered (put_piece m.first m.last Free a.pieces) refl
       (λ p k free less. elim (put_only m.first m.last Free p a.pieces sp.ordered k) [
-        | inl e ↦ let f : p.first ≡ m.first = ap (λ (q : Piece). q.first) e in absurd (omega (arith, f, less))
-        | inr x ↦ elim x [
-          | inl y ↦ none p y.0 free (omega (arith, less, alone))
-          | inr y ↦ elim y [
-            | inl z ↦
-                let e = in_one 1 z.of (pages_as pages Live) a.pieces pages.first sp.ordered z.among i
-                (omega (arith, z.under, alone), omega (arith, z.past, alone)) (omega arith, w) in
-                let f : z.of.first ≡ pages.first = ap (λ (q : Piece). q.first) e in
-                absurd (omega (arith, f, z.under, alone))
-            | inr z ↦ absurd (omega (arith, z.begins, less, b.2, b.1, w))
-          ]
+        | inl e ↦ absurd (grind arith)
+        | inr x ↦ elim x.2.whole [
+          | inl e ↦ none p (subst (λ q. IsIn q a.pieces) (sym e) x.1) free (omega (arith, less, alone))
+          | inr c ↦
+              let e = in_one 1 x.0 (pages_as pages Live) a.pieces pages.first sp.ordered x.1 i in
+              let apart = x.2.apart in
+              let begins = x.2.begins in
+              let some = x.2.some in absurd (grind arith)
         ]
       ]) some (omega (arith, b.2, alone, long)) (ap (λ n. n % unit) alone ∙ aligned))

@@ -1,3 +1,4 @@
+pub mod Names
 pub mod Pieces
 pub mod Puts
 pub mod Among
@@ -18,4 +19,3 @@ pub mod carvings
 mod FreedLive
 pub mod Sorted
 pub mod Partition
-pub mod FreedPages

@@ -1,10 +1,6 @@
 -- Each page of a space lies in a piece.
-use Rattle.std.proofs.Common.{ℕ, ◌≤◌, List, Option, Some, None, IsSome, refl, sym, subst}
-use Rattle.piece_tree.specs.declared.piece.Piece.{Piece}
-use Rattle.piece_tree.specs.Laid.{with_piece}
-use Rattle.piece_tree.specs.Pieces.{piece_at}
-use Rattle.iova.specs.Pieces.{state_at}
-use Rattle.iova.specs.Space.{Space, IsPageTo, IsSpace}
+use Rattle.iova.proofs.Names.{ℕ, ◌≤◌, List, Option, Some, None, IsSome, refl, sym, subst, Piece, with_piece, piece_at, state_at, Space}
+use Rattle.iova.proofs.Names.{IsPageTo, IsSpace}
 use Rattle.iova.proofs.Among.{in_state, put_piece}
 use Rattle.iova.proofs.Keep.{is_some}
 use Rattle.iova.proofs.parts.Filled.{its_state, state_is}

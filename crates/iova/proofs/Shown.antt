@@ -1,34 +1,18 @@
 -- What a space shows while it knows a piece that came free, which its tree has as live.
-use Rattle.std.proofs.Common.{◌≡◌, ◌≢◌, ℕ, ◌+◌, ◌-◌, ◌<◌, ◌≤◌, ◌⊎◌, ◌↔◌, List, [], ◌∷◌, ◌++◌, length, Option, Some, None}
-use Rattle.std.proofs.Common.{IfSome, refl, ap, sym, ◌∙◌, inl, inr, subst, arith, append-nil, append_assoc, length-append}
-use Rattle.std.specs.List.{AllByRecursion}
-use Rattle.dmatypes.specs.Page.{Range}
-use Rattle.dmatypes.specs.World.{IsIn}
-use Rattle.iova.specs.declared.ends.Ends.{Ends}
-use Rattle.piece_tree.specs.declared.piece.TheConstants.{NUMBERS_END}
-use Rattle.piece_tree.specs.declared.piece.PageState.{PageState}
-use Rattle.piece_tree.specs.declared.piece.PageState.TheVariants.{Free, Live}
-use Rattle.piece_tree.specs.declared.piece.Piece.{Piece}
-use Rattle.piece_tree.specs.Pieces.{Holds}
-use Rattle.piece_tree.specs.Freed.{free_end, free_start, widened, with_free}
-use Rattle.iova.specs.Pieces.{IsOrdered, piece_of, state_at}
-use Rattle.piece_tree.specs.Laid.{part_above, with_piece}
-use Rattle.iova.specs.Space.{Space, IsSpace}
-use Rattle.iova.specs.Changes.{Frees, Takes}
-use Rattle.iova.specs.Stored.{AreLive, TakesPlace, shown, stored}
-use Rattle.piece_tree.specs.Pieces.{IsPiece}
-use Rattle.piece_tree.specs.Laid.{rest_above, rest_below}
-use Rattle.iova.specs.Pieces.{pages_as}
+use Rattle.iova.proofs.Names.{◌≡◌, ◌≢◌, ℕ, ◌+◌, ◌-◌, ◌<◌, ◌≤◌, ◌⊎◌, ◌↔◌, List, [], ◌∷◌, ◌++◌, length, Option, Some, None, IfSome, refl, ap}
+use Rattle.iova.proofs.Names.{sym, ◌∙◌, inl, inr, subst, arith, append-nil, append_assoc, length-append, AllByRecursion, Range, IsIn, Ends}
+use Rattle.iova.proofs.Names.{nat_tests, PageState, Free, Live, Piece, Holds, free_end, free_start, widened, with_free, IsOrdered}
+use Rattle.iova.proofs.Names.{piece_of, state_at, with_piece, Space, IsSpace, Frees, Takes, AreLive, TakesPlace, shown, stored, rest_above}
+use Rattle.iova.proofs.Names.{rest_below, pages_as}
 use Rattle.iova.proofs.Pieces.{order}
 use Rattle.iova.proofs.Puts.{ordered_put}
-use Rattle.iova.proofs.Among.{in_le, in_one, in_state, put_piece}
-use Rattle.iova.proofs.Keep.{is_some}
-use Rattle.iova.proofs.Freed.{frees, one_run, space_freed}
-use Rattle.iova.proofs.FreedRun.{joined}
+use Rattle.iova.proofs.Among.{in_le, in_one, in_other, in_state, put_piece}
+use Rattle.iova.proofs.Freed.{frees, space_freed}
+use Rattle.iova.proofs.FreeRange.{free_end_ge, free_start_le}
 use Rattle.iova.proofs.Same.{same_pieces}
 use Rattle.iova.proofs.Taken.{takes}
-use Rattle.iova.proofs.parts.Added.{rest_above-none, rest_above-some, rest_below-none, rest_below-some, with_over}
-use Rattle.iova.proofs.parts.Over.{with_same}
+use Rattle.iova.proofs.parts.Added.{rest_below-none, rest_below-some, with_over}
+use Rattle.iova.proofs.parts.Over.{with_alike}
 use Rattle.iova.proofs.parts.Parts.{above_whole, below_whole, ordered_behind}
 
 -- a piece that is there, and those before and behind it
@@ -40,17 +24,9 @@ parted p (q ∷ ps) m = elim m [
 ]
 
 -- a piece that is put where it is changes nothing
-pub put_again : (from : ℕ) (p : Piece) (ps : List Piece) → IsOrdered from ps → IsPiece p → IsIn p ps → with_piece p ps ≡ ps
-put_again from p ps o w i =
-    let r = parted p ps i in
-    ap (λ l. with_piece p l) r.2 ∙ with_same from r.0 p r.1 p (subst (λ l. IsOrdered from l) r.2 o) w refl refl ∙ sym r.2
-
--- a piece of a space ends at the number of a page
-pub in_narrow : (a : Space) (p : Piece) → IsSpace a → IsIn p a.pieces → p.last < NUMBERS_END
-in_narrow a p sp i =
-    let w = in_le 1 p a.pieces sp.ordered i in
-    let s = sp.others p.last (is_some a.pieces p.last p.state (in_state 1 p a.pieces p.last sp.ordered i w.1 (omega arith))) in
-    omega (arith, s.1, sp.narrow)
+pub put_again : (from : ℕ) (p : Piece) (ps : List Piece) → IsOrdered from ps → IsIn p ps → with_piece p ps ≡ ps
+put_again from p ps o i =
+    let r = parted p ps i in cc (with_alike from r.0 p r.1 p (subst (λ l. IsOrdered from l) r.2 o) refl refl)
 
 -- the pages as a range
 abbrev range_of : Ends → Range
@@ -58,8 +34,7 @@ range_of pages = record { first = pages.first; pages = pages.last - pages.first 
 
 range_is : (pages : Ends) (s : PageState) → pages.first ≤ pages.last → pages_as pages s ≡ piece_of (range_of pages) s
 range_is pages s w =
-    let e : pages.last ≡ pages.first + (pages.last - pages.first + 1) - 1 = omega arith in
-    ap (λ n. record { first = pages.first; last = n; state = s }) e
+    let e : pages.last ≡ pages.first + (pages.last - pages.first + 1) - 1 = omega arith in cc
 
 -- ---- a live piece that came free
 
@@ -83,11 +58,8 @@ module _ (a : Space) (pages : Ends) (sp : IsSpace a) (i : IsIn (pages_as pages L
   pub bounds : (1 ≤ free_start a.pieces pages.first) × (free_start a.pieces pages.first ≤ pages.first)
       × (pages.last ≤ free_end a.pieces pages.last)
   bounds =
-      let j = joined q a.pieces sp.ordered wide (one_run q a.pieces i) in
-      let there = (space_shown_free.others m.first (is_some b.pieces m.first Free
-      (in_state 1 m b.pieces m.first space_shown_free.ordered (put_piece m.first m.last Free a.pieces) (omega arith)
-      (omega (arith, j.low, j.high, wide))))).0 in
-      (there.0, j.low, j.high)
+      let b = free_start_le 1 pages.first a.pieces sp.ordered (in_le 1 q a.pieces sp.ordered i).0 in
+      (b.0, b.1, free_end_ge 1 pages.last a.pieces sp.ordered)
 
   came_free : Frees a b (range_of pages) Live
   came_free =
@@ -111,11 +83,7 @@ module _ (a : Space) (pages : Ends) (sp : IsSpace a) (i : IsIn (pages_as pages L
   pub freed_others : (r : Piece) → r.state ≢ Free → IsIn r (with_free (pages_as pages Live) a.pieces)
       ↔ (IsIn r a.pieces × (r ≢ pages_as pages Live))
   freed_others r n =
-      let e = range_is pages Live wide in
-      let f = came_free.in_use r n in (
-        (λ k. let x = f.0 k in (x.0, (λ y. x.1 (y ∙ e)))),
-        (λ k. f.1 (k.0, (λ y. k.1 (y ∙ sym e)))),
-      )
+      subst (λ p. IsIn r (with_free q a.pieces) ↔ (IsIn r a.pieces × (r ≢ p))) (sym (range_is pages Live wide)) (came_free.in_use r n)
 
   -- ---- and is taken again
 
@@ -134,24 +102,18 @@ module _ (a : Space) (pages : Ends) (sp : IsSpace a) (i : IsIn (pages_as pages L
       (λ f. absurd (cc))
 
   back_states : (page : ℕ) → state_at c page ≡ state_at a.pieces page
-  back_states page = elim (order pages.first page) [
-    | inr h ↦ back_takes.states.outside page (λ w. omega (arith, w.0, h)) ∙ freed_outside page (inl h)
-    | inl h ↦ elim (order page pages.last) [
-      | inl l ↦ back_takes.states.inside page (h, omega (arith, wide, l)) ∙ sym (in_state 1 q a.pieces page sp.ordered i h l)
-      | inr l ↦ back_takes.states.outside page (λ w. omega (arith, w.1, l, wide)) ∙ freed_outside page (inr l)
-    ]
-  ]
+  back_states page =
+      let inside = back_takes.states.inside page in
+      let outside = back_takes.states.outside page in
+      let was = in_state 1 q a.pieces page sp.ordered i in
+      let before = freed_outside page in
+      let w = wide in grind arith
 
   same_or_other : (r : Piece) → IsIn r a.pieces → (r ≡ q) ⊎ (r ≢ q)
   same_or_other r k =
       let w = in_le 1 r a.pieces sp.ordered k in
-      elim (order r.first pages.first) [
-        | inr h ↦ inr (λ e. let f : r.first ≡ pages.first = ap (λ (p : Piece). p.first) e in omega (arith, f, h))
-        | inl h ↦ elim (order pages.first r.first) [
-          | inr l ↦ inr (λ e. let f : r.first ≡ pages.first = ap (λ (p : Piece). p.first) e in omega (arith, f, l))
-          | inl l ↦ inl (in_one 1 r q a.pieces pages.first sp.ordered k i (h, omega (arith, l, h, w.1)) (omega arith, wide))
-        ]
-      ]
+      let v = wide in
+      let one = in_one 1 r q a.pieces pages.first sp.ordered k i in grind arith
 
   pub taken_back : with_piece (pages_as pages Live) (with_free (pages_as pages Live) a.pieces) ≡ a.pieces
   taken_back =
@@ -177,16 +139,14 @@ module _ (a : Space) (pages : Ends) (sp : IsSpace a) (i : IsIn (pages_as pages L
       let o = subst (λ l. IsOrdered 1 l) r.2 space_shown_free.ordered in
       let w = wide in
       let bs = bounds in
-      sym taken_back ∙ ap (λ l. with_piece q l) r.2
-      ∙ with_over 1 r.0 m r.1 q o (omega (arith, bs.2, w)) (omega (arith, bs.1, w))
-      ∙ ap (λ l. (l ++ rest_below pages.first m) ++ q ∷ (rest_above pages.last m ++ part_above pages.last r.1))
-      (below_whole 1 r.0 m r.1 pages.first o bs.1)
-      ∙ ap (λ l. (r.0 ++ rest_below pages.first m) ++ q ∷ (rest_above pages.last m ++ l))
-      (above_whole (m.last + 1) pages.last r.1 (ordered_behind 1 r.0 m r.1 o) (omega (arith, bs.2)))
+      let below = below_whole 1 r.0 m r.1 pages.first o bs.1 in
+      let above = above_whole (m.last + 1) pages.last r.1 (ordered_behind 1 r.0 m r.1 o) (omega (arith, bs.2)) in
+      cc (taken_back, with_over 1 r.0 m r.1 q o (omega (arith, bs.2, w)) (omega (arith, bs.1, w)))
 
-  count_is : length a.pieces
+  -- how many more pieces there were
+  pub freed_count : length a.pieces
       ≡ length (with_free (pages_as pages Live) a.pieces) + length (rest_below pages.first m) + length (rest_above pages.last m)
-  count_is =
+  freed_count =
       let r = parts in
       let x = rest_below pages.first m in
       let y = rest_above pages.last m in
@@ -200,60 +160,36 @@ module _ (a : Space) (pages : Ends) (sp : IsSpace a) (i : IsIn (pages_as pages L
         length-append r.0 (m ∷ r.1),
       )
 
-  -- how many more pieces there were
-  pub freed_count : (before behind : ℕ) → (free_start a.pieces pages.first < pages.first → before ≡ 1)
-      → (pages.first ≤ free_start a.pieces pages.first → before ≡ 0) → (pages.last < free_end a.pieces pages.last → behind ≡ 1)
-      → (free_end a.pieces pages.last ≤ pages.last → behind ≡ 0)
-      → length a.pieces ≡ length (with_free (pages_as pages Live) a.pieces) + before + behind
-  freed_count before behind f g h k =
-      let x : length (rest_below pages.first m) ≡ before = elim (order pages.first m.first) [
-        | inl l ↦ ap length (rest_below-none pages.first m l) ∙ sym (g l)
-        | inr l ↦ ap length (rest_below-some pages.first m l) ∙ sym (f l)
-      ] in
-      let y : length (rest_above pages.last m) ≡ behind = elim (order m.last pages.last) [
-        | inl l ↦ ap length (rest_above-none pages.last m l) ∙ sym (k l)
-        | inr l ↦ ap length (rest_above-some pages.last m l) ∙ sym (h l)
-      ] in
-      omega (arith, count_is, x, y)
-
   within_above : AllByRecursion (λ p. p.first ≤ m.last) (rest_above pages.last m)
-  within_above = elim (order m.last pages.last) [
-    | inl l ↦ subst (λ ps. AllByRecursion (λ (p : Piece). p.first ≤ m.last) ps) (sym (rest_above-none pages.last m l)) tt
-    | inr l ↦ subst (λ ps. AllByRecursion (λ (p : Piece). p.first ≤ m.last) ps) (sym (rest_above-some pages.last m l))
-        (omega (arith, l), tt)
-  ]
+  within_above = grind (arith, nat_tests)
 
   pub freed_place : TakesPlace (record { first = free_start a.pieces pages.first; last = free_end a.pieces pages.last }) a.pieces
   freed_place =
       let r = parts in
       let y = rest_above pages.last m in
       let bs = bounds in
+      let z : Piece = record m { last = pages.first - 1 } in
       elim (order pages.first m.first) [
         | inl l ↦ record {
           before = r.0;
           first = q;
           rest = y;
           behind = r.1;
-          parts = was ∙ ap (λ xs. (r.0 ++ xs) ++ q ∷ (y ++ r.1)) (rest_below-none pages.first m l)
-              ∙ ap (λ xs. xs ++ q ∷ (y ++ r.1)) (append-nil r.0)
-              ∙ sym (append_assoc r.0 (q ∷ y) r.1);
+          parts = cc (was, rest_below-none pages.first m l, append-nil r.0, append_assoc r.0 (q ∷ y) r.1);
           begins = omega (arith, l, bs.1);
           within = within_above;
           now = r.2;
         }
-        | inr l ↦
-            let z : Piece = record m { last = pages.first - 1 } in
-            record {
-              before = r.0;
-              first = z;
-              rest = q ∷ y;
-              behind = r.1;
-              parts = was ∙ ap (λ xs. (r.0 ++ xs) ++ q ∷ (y ++ r.1)) (rest_below-some pages.first m l)
-                  ∙ append_assoc r.0 (z ∷ []) (q ∷ (y ++ r.1)) ∙ sym (append_assoc r.0 (z ∷ q ∷ y) r.1);
-              begins = refl;
-              within = (omega (arith, bs.2, wide), within_above);
-              now = r.2;
-            }
+        | inr l ↦ record {
+          before = r.0;
+          first = z;
+          rest = q ∷ y;
+          behind = r.1;
+          parts = cc (was, rest_below-some pages.first m l, append_assoc r.0 (z ∷ []) (q ∷ (y ++ r.1)), append_assoc r.0 (z ∷ q ∷ y) r.1);
+          begins = refl;
+          within = (omega (arith, bs.2, wide), within_above);
+          now = r.2;
+        }
       ]
 
 -- ---- a space
@@ -274,15 +210,10 @@ module _ (last : ℕ) (pieces : List Piece) (sp : IsSpace (stored last pieces)) 
   live_shown None k p page i h l e = i
   live_shown (Some pages) k p page i h l e =
       let a : Space = stored last pieces in
-      (freed_others a pages sp k p (λ f. absurd (cc))).1 (
-        i,
-        (λ f.
-            let g : (pages.first ≤ page) × (page ≤ pages.last) =
-            subst (λ (r : Piece). (r.first ≤ page) × (page ≤ r.last)) f h in
-            let x : Some Free ≡ Some Live = sym (freed_inside a pages sp k page g.0 g.1) ∙ e
-            ∙ in_state 1 p a.pieces page sp.ordered i h.0 h.1 ∙ ap (λ s. Some s) l in
-            absurd (cc)),
-      )
+      let other = λ (f : p ≡ pages_as pages Live).
+      let g : (pages.first ≤ page) × (page ≤ pages.last) = subst (λ (r : Piece). (r.first ≤ page) × (page ≤ r.last)) f h in
+      in_other p pieces page Free sp.ordered i (cc (freed_inside a pages sp k page g.0 g.1)) (λ f. absurd (cc)) h in
+      (freed_others a pages sp k p (λ f. absurd (cc))).1 (i, other)
 
   -- a page of the piece that came free is free, and any other is what it is in the tree
   pub state_inside : (freed : Option Ends) → AreLive freed pieces → (pages : Ends) (page : ℕ) → freed ≡ Some pages → pages.first ≤ page

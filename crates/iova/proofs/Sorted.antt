@@ -1,12 +1,7 @@
 -- The pieces of a space are in order as the tree's are.
-use Rattle.std.proofs.Common.{ℕ, ◌+◌, ◌<◌, ◌≤◌, List, [], ◌∷◌, refl, inl, inr, sym, subst, arith}
-use Rattle.dmatypes.specs.World.{IsIn}
-use Rattle.piece_tree.specs.declared.piece.Piece.{Piece}
-use Rattle.piece_tree.specs.declared.piece.TheConstants.{NUMBERS_END}
-use Rattle.piece_tree.specs.Pieces.{AreSorted, IsPiece}
-use Rattle.iova.specs.Pieces.{IsOrdered}
-use Rattle.iova.specs.Space.{Space, IsSpace}
-use Rattle.iova.proofs.Shown.{in_narrow}
+use Rattle.iova.proofs.Names.{ℕ, ◌+◌, ◌<◌, ◌≤◌, List, [], ◌∷◌, refl, inl, inr, sym, subst, arith, IsIn, Piece, NUMBERS_END, AreSorted}
+use Rattle.iova.proofs.Names.{IsPiece, IsOrdered, Space, IsSpace}
+use Rattle.iova.proofs.Keep.{in_narrow}
 
 pub ordered_sorted : (low from : ℕ) (ps : List Piece) → IsOrdered from ps → low ≤ from
     → ((p : Piece) → IsIn p ps → p.last < NUMBERS_END) → AreSorted low ps

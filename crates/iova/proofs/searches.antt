@@ -1,7 +1,6 @@
 pub mod Fit
 pub mod FromFloor
 pub mod CutAt
-pub mod FreeEnds
 pub mod Walked
 pub mod InPlace
 pub mod Holding

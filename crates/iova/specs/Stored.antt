@@ -9,7 +9,7 @@ use Rattle.piece_tree.specs.declared.piece.TheConstants.{NUMBERS_END}
 use Rattle.piece_tree.specs.Laid.{with_piece}
 use Rattle.piece_tree.specs.Pieces.{AreSorted}
 use Rattle.iova.specs.declared.ends.Ends.{Ends}
-use Rattle.piece_tree.specs.Freed.{with_free}
+use Rattle.iova.specs.Freed.{with_free}
 use Rattle.iova.specs.Pieces.{IsOrdered, pages_as}
 use Rattle.iova.specs.Space.{Space}
 

@@ -3,7 +3,7 @@
 ghost use Rattle.std.specs.Prelude.{◌≡◌, ◌+◌, ◌-◌, ◌<◌, ◌≤◌, ◌↔◌, IfSome, IsSome, IsTrue};
 ghost use Rattle.dmatypes.specs.Page.{IsPageRange};
 ghost use Rattle.piece_tree.specs.Pieces.{IsPiece, piece_at};
-ghost use Rattle.piece_tree.specs.Freed.{free_end, free_start};
+ghost use Rattle.iova.specs.Freed.{free_end, free_start};
 ghost use Rattle.iova.specs.Pieces.{IsOrdered, end_by, pages_as, piece_of, start_by};
 
 use dmatypes::PageRange;
@@ -93,7 +93,8 @@ pub(crate) fn free_start_at(tree: &PieceTree, first: u64) -> u64
     start(tree.piece_at(first - 1), first)
 }
 
-/// The same, looked for by the pages beside them.
+/// Pages with the free ones that they touch.
+#[inline(never)]
 pub(crate) fn free_ends_at(tree: &PieceTree, pages: Ends) -> Ends
     requires ordered { IsOrdered 1 tree.now }
     requires some { 1 ≤ pages.first }

@@ -3,7 +3,7 @@
 ghost use Rattle.std.specs.Prelude.{◌≡◌, ◌≢◌, ℕ, ◌+◌, ◌^◌, ◌<◌, ◌≤◌, ◌↔◌, ◌⊎◌, length, IsTrue, IfSome, IfNone, None, Some, false};
 ghost use Rattle.dmatypes.specs.World.{IsIn};
 ghost use Rattle.piece_tree.specs.Pieces.{Holds, piece_at};
-ghost use Rattle.piece_tree.specs.Freed.{free_start, with_free};
+ghost use Rattle.iova.specs.Freed.{free_start, with_free};
 ghost use Rattle.iova.specs.Pieces.{NoneFreeBelow, pages_as, state_at};
 ghost use Rattle.iova.specs.Space.{IsLowestFit, IsSpace};
 ghost use Rattle.iova.specs.Stored.{AreLive, TakesPlace, shown, stored, with_freed};
@@ -23,7 +23,9 @@ pub(crate) fn set_free(tree: &mut PieceTree, low: u64, pages: Ends) -> u64
     ensures tree { tree.new ≡ with_free (pages_as pages PageState.Free) tree.old }
     ensures low { NoneFreeBelow result tree.new }
 {
-    low.min(tree.free(pages.first, pages.last))
+    let ends = free_ends_at(tree, pages);
+    tree.lay(ends.in_state(PageState::Free));
+    low.min(ends.first)
 }
 
 /// Tells the tree of the piece that came free, if there is one: its pieces are then those that the space shows.

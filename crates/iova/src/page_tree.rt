@@ -72,7 +72,7 @@ impl PageTree {
     ghost use Rattle.dmatypes.specs.World.{IsIn};
     ghost use Rattle.piece_tree.specs.Laid.{with_piece};
     ghost use Rattle.piece_tree.specs.Pieces.{Holds};
-    ghost use Rattle.piece_tree.specs.Freed.{with_free};
+    ghost use Rattle.iova.specs.Freed.{with_free};
     ghost use Rattle.iova.specs.Pieces.{IsRun, NoneFreeBelow, pages_as, piece_of, state_at};
     ghost use Rattle.iova.specs.Space.{Space, AllFree, IsFit, IsLowestFit, IsLowestFrom, IsSpace, IsTooMany, MayRetire};
     ghost use Rattle.iova.specs.Carved.{AreCarved, FollowOn, IsSought, with_carved};

@@ -7,7 +7,6 @@ pub mod Lifted
 pub mod Sorted
 pub mod Tall
 pub mod Led
-pub mod Beside
 pub mod Rising
 pub mod Apart
 pub mod Edited
@@ -16,9 +15,6 @@ pub mod Placed
 pub mod Sought
 pub mod Room
 pub mod Fitting
-pub mod Edges
-pub mod Edging
-pub mod Grown
 pub mod Shorter
 pub mod Laid
 pub mod Halved

@@ -4,7 +4,8 @@ use Rattle.slab.specs.Slab.{Slab, get, slab_len}
 use Rattle.piece_tree.specs.declared.piece.Piece.{Piece}
 use Rattle.piece_tree.specs.declared.piece.TheConstants.{MOST_PIECES, NUMBERS_END}
 use Rattle.piece_tree.specs.declared.node.Node.{Node}
-use Rattle.piece_tree.specs.declared.node.Top.{Top}
+use Rattle.piece_tree.specs.declared.top.TheConstants.{KEYS_END}
+use Rattle.piece_tree.specs.Top.{Top}
 use Rattle.piece_tree.specs.Laid.{IsRow, part_beside, with_row}
 use Rattle.piece_tree.specs.Pieces.{AreSorted, HasAny}
 use Rattle.piece_tree.specs.Tree.{Look, Shape, AreParts, IsBelow, Stands, items, height_of, one, uses, top_of}
@@ -114,3 +115,4 @@ pub record CanReplace (nodes : Slab Node) (key : ℕ) (first : ℕ) (row : List 
   pub narrow : last < NUMBERS_END
   pub short : length (with_row first row last (items t)) ≤ MOST_PIECES
   pub room : slab_len nodes + length (with_row first row last (items t)) ≤ nodes.capacity + length (items t)
+  pub keys : nodes.capacity ≤ KEYS_END

@@ -2,9 +2,9 @@
 use Rattle.std.specs.Prelude.{Bool}
 use Rattle.std.specs.Borrow.{Lends, MutBor, Fml}
 use Rattle.piece_tree.specs.declared.node.Node.{Node}
-use Rattle.piece_tree.specs.declared.node.Top.{Top}
+use Rattle.piece_tree.specs.Top.{Top}
 use Rattle.piece_tree.specs.contracts.node.Node as nodes
-use Rattle.piece_tree.specs.contracts.node.Top as tops
+use Rattle.piece_tree.specs.contracts.top.Top as tops
 use Rattle.piece_tree.specs.Tree.{with_child}
 
 -- the node ends with the last value behind the result on that side

@@ -7,9 +7,10 @@ use Rattle.slab.specs.Slab.{Slab, get, slab_len}
 use Rattle.piece_tree.specs.declared.piece.Piece.{Piece}
 use Rattle.piece_tree.specs.declared.piece.TheConstants.{MOST_PIECES}
 use Rattle.piece_tree.specs.declared.node.Node.{Node}
+use Rattle.piece_tree.specs.declared.top.TheConstants.{KEYS_END}
 use Rattle.piece_tree.specs.declared.way.TheConstants.{MOST_HEIGHT}
 use Rattle.piece_tree.specs.declared.node.Opened.{Opened}
-use Rattle.piece_tree.specs.declared.node.Top.{Top}
+use Rattle.piece_tree.specs.Top.{Top}
 use Rattle.piece_tree.specs.Pieces.{is_free, AreSorted, IsPiece}
 
 -- what is under each key
@@ -157,13 +158,6 @@ pub record CanHang (look : Look) (before : Bool) (key : ℕ) (tree : Top) (piece
   pub once : (k : ℕ) → one key k + uses n k + uses f k ≤ 1
   pub low : (height_of n ≤ 100) × (height_of f ≤ 100)
 
--- the tree has the root and the height of the other one, and so much is longest in it
-pub record CanShow (look : Look) (before : Bool) (key longest : ℕ) (piece : Piece) (was n f : Shape) : Type 0 where
-  pub can : CanHang look before key (top_of n) piece was n f
-  pub same_root : root_of n ≡ root_of was
-  pub same_height : height_of n ≡ height_of was
-  pub is : longest ≡ longest_of n
-
 -- ---- the whole tree
 
 -- what stands at a root
@@ -184,7 +178,8 @@ contents look (suc depth) root = around (at_root look root) (contents look depth
 abbrev pub pieces_of : Slab Node → Top → List Piece
 pieces_of nodes root = contents (get nodes) MOST_HEIGHT root.root
 
--- a tree of pieces in order stands below the root, at most 14 high, with no key in two places, and there is room for all pieces
+-- a tree of pieces in order stands below the root, at most 14 high, with no key in two places. There is room for all pieces, and no more
+-- than there are keys
 pub record IsWhole (nodes : Slab Node) (root : Top) (t : Shape) : Type 0 where
   pub here : root ≡ top_of t
   pub stands : Stands (get nodes) t
@@ -194,3 +189,4 @@ pub record IsWhole (nodes : Slab Node) (root : Top) (t : Shape) : Type 0 where
   pub count : slab_len nodes ≡ length (items t)
   pub few : length (items t) ≤ MOST_PIECES
   pub room : MOST_PIECES ≤ nodes.capacity
+  pub keys : nodes.capacity ≤ KEYS_END

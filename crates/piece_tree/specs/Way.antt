@@ -1,15 +1,17 @@
 -- Ways down a tree: what lies above a place in it. A way is the steps from the root down, and `Above` is what lies beside them.
-use Rattle.std.specs.Prelude.{ℕ, ◌≡◌, ◌+◌, ◌*◌, ◌<◌, ◌≤◌, Bool, true, false, not, List, [], ◌∷◌, ◌++◌, Option, Some, IfSome, slice_index_or}
+use Rattle.std.specs.Prelude.{ℕ, ◌≡◌, ◌+◌, ◌*◌, ◌<◌, ◌≤◌, Bool, true, false, List, [], ◌∷◌, ◌++◌, length, Option, Some, IfSome, slice_index_or}
 use Rattle.std.specs.List.{AllByRecursion}
 use Rattle.slab.specs.Slab.{Slab, get}
+use Rattle.piece_tree.specs.declared.edits.Laid.{Laid}
 use Rattle.piece_tree.specs.declared.piece.Piece.{Piece}
+use Rattle.piece_tree.specs.declared.piece.TheConstants.{MOST_PIECES, NUMBERS_END}
 use Rattle.piece_tree.specs.declared.node.Node.{Node}
-use Rattle.piece_tree.specs.declared.node.Top.{Top}
+use Rattle.piece_tree.specs.Top.{Top}
 use Rattle.piece_tree.specs.declared.way.Held.{Held}
-use Rattle.piece_tree.specs.declared.way.Place.{Place}
 use Rattle.piece_tree.specs.declared.way.Step.{Step}
 use Rattle.piece_tree.specs.declared.way.TheConstants.{MOST_HEIGHT}
-use Rattle.piece_tree.specs.Pieces.{IsPiece}
+use Rattle.piece_tree.specs.Laid.{IsRow, with_row}
+use Rattle.piece_tree.specs.Pieces.{HasAny, IsPiece}
 use Rattle.piece_tree.specs.Tree.{Look, Shape, Fork, items, height_of, longest_of, root_of, top_of, one, uses, fork, joint_at}
 use Rattle.piece_tree.specs.Tree.{AreNear, Stands}
 use Rattle.piece_tree.specs.Tree.{IsWhole}
@@ -41,11 +43,6 @@ back Whole = []
 back (Beside true key piece other up) = piece ∷ items other ++ back up
 back (Beside false key piece other up) = back up
 
--- of the trees before a key and behind it, the one on a side
-abbrev pub side : (before : Bool) → Shape → Shape → Shape
-side true l r = l
-side false l r = r
-
 -- how often a key is used beside the place
 abbrev pub uses_above : Above → ℕ → ℕ
 uses_above Whole k = 0
@@ -73,21 +70,22 @@ abbrev pub within : (inner up : Above) → Above
 within Whole up = up
 within (Beside before key piece other inner) up = Beside before key piece other (within inner up)
 
--- each step of the way goes to that side
-abbrev pub GoesOn : (before : Bool) → Above → Type 0
-GoesOn before Whole = Unit {0}
-GoesOn before (Beside to key piece other up) = (to ≡ before) × GoesOn before up
+-- each step of the way goes on behind its key
+abbrev pub GoesBehind : Above → Type 0
+GoesBehind Whole = Unit {0}
+GoesBehind (Beside true key piece other up) = ⊥
+GoesBehind (Beside false key piece other up) = GoesBehind up
 
--- the last step of the way that goes to a side: so many steps lead to its key
-pub record IsStepAbove (way : List Step) (before : Bool) (depth : ℕ) (path : Above) : Type 0 where
+-- the last step of the way that goes on before its key: so many steps lead to that key
+pub record IsStepAbove (way : List Step) (depth : ℕ) (path : Above) : Type 0 where
   pub inner : Above
   pub key : ℕ
   pub piece : Piece
   pub other : Shape
   pub up : Above
-  pub is : path ≡ within inner (Beside before key piece other up)
-  pub on : GoesOn (not before) inner
-  pub step : step_at way depth ≡ record { key = key; before = before }
+  pub is : path ≡ within inner (Beside true key piece other up)
+  pub on : GoesBehind inner
+  pub step : step_at way depth ≡ record { key = key; before = true }
   pub steps : AreSteps way depth up
 
 -- ---- up
@@ -131,10 +129,13 @@ pub record Lies (first last : ℕ) (at : Option ℕ) (t : Shape) : Type 0 where
   pub before : AllByRecursion (λ q. q.last < first) (front path)
   pub behind : AllByRecursion (λ q. last < q.first) (back path)
 
--- and the way leads there
-pub record Leads (way : List Step) (first last : ℕ) (place : Place) (t : Shape) : Type 0 where
-  pub lies : Lies first last place.at t
-  pub steps : AreSteps way place.depth lies.path
+-- and the way leads there, to the highest piece that has some of these pages
+pub record Reaches (nodes : Slab Node) (way : List Step) (first last : ℕ) (held : Held) (t : Shape) : Type 0 where
+  pub lies : Lies first last (Some held.key) t
+  pub steps : AreSteps way held.depth lies.path
+  pub node : Node
+  pub there : get nodes held.key ≡ Some node
+  pub has : HasAny node.piece first last
 
 -- the way leads to a key of the tree below the root, which has a piece between two trees
 pub record IsHeld (nodes : Slab Node) (root : Top) (way : List Step) (held : Held) (path : Above) (p : Piece) (l r : Shape)
@@ -164,3 +165,20 @@ pub record WholeBecomes (old new : Slab Node) (root : Top) (path : Above) (piece
   pub once : (k : ℕ) → uses shape k ≤ 1
   pub all : items shape ≡ among path pieces
   pub capacity : new.capacity ≡ old.capacity
+
+-- a row can be laid over pages from a first to a last one: the way leads to the highest piece that has some of them
+pub record CanLay (nodes : Slab Node) (root : Top) (way : List Step) (held : Held) (first : ℕ) (row : List Piece) (last : ℕ) (t : Shape)
+    : Type 0 where
+  pub whole : IsWhole nodes root t
+  pub reaches : Reaches nodes way first last held t
+  pub is_row : IsRow first row (last + 1)
+  pub some : first ≤ last
+  pub narrow : last < NUMBERS_END
+  pub few : length (with_row first row last (items t)) ≤ MOST_PIECES
+
+-- a whole tree of these pieces lies below the root, and what is at hand in it is
+pub record LaysOver (new : Slab Node) (laid : Laid) (way : List Step) (pieces : List Piece) : Type 0 where
+  pub shape : Shape
+  pub whole : IsWhole new laid.root shape
+  pub all : items shape ≡ pieces
+  pub hand : IsAtHand way laid.hand shape

@@ -1,20 +1,16 @@
 //! What changes at a key to which a way leads: its piece is another, or a row is laid over it and those below it.
 
-ghost use Rattle.std.specs.Prelude.{◌≡◌, ◌+◌, ◌≤◌, ◌∷◌, ◌++◌, ℕ, length};
-ghost use Rattle.slab.specs.Slab.{slab_len};
-ghost use Rattle.piece_tree.specs.Graft.{CanReplace};
+ghost use Rattle.std.specs.Prelude.{◌≡◌, [], ◌∷◌, ◌++◌, ℕ};
 ghost use Rattle.piece_tree.specs.Laid.{with_piece, with_row};
 ghost use Rattle.piece_tree.specs.Pieces.{IsPiece};
-ghost use Rattle.piece_tree.specs.declared.piece.TheConstants.{MOST_PIECES};
-ghost use Rattle.piece_tree.specs.Stretches.{Covers, LaysOver, pages_of};
-ghost use Rattle.piece_tree.specs.Tree.{Fork, IsWhole, KeepsCount, Shape, items};
-ghost use Rattle.piece_tree.specs.Way.{Above, WholeBecomes, IsHeld, plug};
+ghost use Rattle.piece_tree.specs.Tree.{Fork, KeepsCount, Shape, items};
+ghost use Rattle.piece_tree.specs.Way.{Above, CanLay, IsHeld, LaysOver, WholeBecomes, plug};
 
 use crate::laying::replace;
 use crate::links::set_piece;
-use crate::node::{Node, Top};
-use crate::piece::{PageState, Piece};
-use crate::stretches::Stretch;
+use crate::node::Node;
+use crate::piece::Piece;
+use crate::top::Top;
 use crate::way::{Held, MOST_HEIGHT, Step, lift, mend};
 use slab::Slab;
 
@@ -45,7 +41,7 @@ pub(crate) fn renew(
     lift(nodes, way, held.depth, root, longest)
 }
 
-/// Puts a row of pieces over others, of which the one at a key is the highest.
+/// Puts a row of pieces over others: the way leads to the highest that has some of its pages.
 #[inline(always)]
 pub(crate) fn lay_over(
     nodes: &mut Slab<Node>,
@@ -53,49 +49,36 @@ pub(crate) fn lay_over(
     way: &[Step; MOST_HEIGHT],
     held: Held,
     row: &[Piece],
-) -> Top
-    requires { (path : Above) × (p : Piece) × (l : Shape) × (r : Shape) × (first : ℕ) × (last : ℕ)
-        × IsHeld nodes.old root way.now held path p l r × CanReplace nodes.old held.key first row.now last (Fork held.key p l r) }
-    ensures becomes { (path : Above) (p : Piece) (l r : Shape) (first last : ℕ) → IsHeld nodes.old root way.now held path p l r
-        → CanReplace nodes.old held.key first row.now last (Fork held.key p l r)
-        → WholeBecomes nodes.old nodes.new result path (with_row first row.now last (items l ++ p ∷ items r)) }
-    ensures len { (path : Above) (p : Piece) (l r : Shape) (first last : ℕ) → IsHeld nodes.old root way.now held path p l r
-        → CanReplace nodes.old held.key first row.now last (Fork held.key p l r)
-        → slab_len nodes.new + length (items l ++ p ∷ items r)
-        ≡ slab_len nodes.old + length (with_row first row.now last (items l ++ p ∷ items r)) }
+) -> Laid
+    requires { (t : Shape) × (first : ℕ) × (last : ℕ) × CanLay nodes.old root way.now held first row.now last t }
+    ensures { (t : Shape) (first last : ℕ) → CanLay nodes.old root way.now held first row.now last t
+        → LaysOver nodes.new result way.now (with_row first row.now last (items t)) }
 {
     let top = replace(nodes, held.key, row);
-    mend(nodes, way, held.depth, root, top)
+    let root = mend(nodes, way, held.depth, root, top);
+    Laid { root, hand: None }
 }
 
-/// Makes the pages of a stretch one piece in a state.
+/// Puts one piece over others, as `lay_over` does. Where it has just the pages of the one that the way leads to, it is at hand then.
 #[inline(always)]
-pub(crate) fn lay_stretch(
+pub(crate) fn lay_piece(
     nodes: &mut Slab<Node>,
     root: Top,
     way: &[Step; MOST_HEIGHT],
-    stretch: Stretch,
-    state: PageState,
+    held: Held,
+    piece: Piece,
 ) -> Laid
-    requires { (t : Shape) × IsWhole nodes.old root t × Covers nodes.old way.now stretch t
-        × (length (with_piece (pages_of stretch state) (items t)) ≤ MOST_PIECES) }
-    ensures { (t : Shape) → IsWhole nodes.old root t → Covers nodes.old way.now stretch t
-        → length (with_piece (pages_of stretch state) (items t)) ≤ MOST_PIECES
-        → LaysOver nodes.new result way.now (with_piece (pages_of stretch state) (items t)) }
+    requires { (t : Shape) × CanLay nodes.old root way.now held piece.first (piece ∷ []) piece.last t }
+    ensures { (t : Shape) → CanLay nodes.old root way.now held piece.first (piece ∷ []) piece.last t
+        → LaysOver nodes.new result way.now (with_piece piece (items t)) }
 {
-    let piece = Piece {
-        first: stretch.first,
-        last: stretch.last,
-        state,
-    };
-    let there = nodes[stretch.held.key].piece;
+    let there = nodes[held.key as usize].piece;
     if there.first == piece.first && there.last == piece.last {
-        let root = renew(nodes, root, way, stretch.held, piece);
+        let root = renew(nodes, root, way, held, piece);
         return Laid {
             root,
-            hand: Some(stretch.held),
+            hand: Some(held),
         };
     }
-    let root = lay_over(nodes, root, way, stretch.held, &[piece]);
-    Laid { root, hand: None }
+    lay_over(nodes, root, way, held, &[piece])
 }

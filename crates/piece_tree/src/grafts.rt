@@ -8,8 +8,9 @@ ghost use Rattle.piece_tree.specs.Graft.{Adds, IsTree, Makes, Parted, some_of};
 ghost use Rattle.piece_tree.specs.Tree.{AreNear, AreParts, CanHang, Empty, Joins, KeepsCount, Shape, height_of, items, root_of, top_of};
 
 use crate::links::{link, open};
-use crate::node::{NO_TREE, Node, Top};
+use crate::node::Node;
 use crate::piece::{MOST_PIECES, Piece};
+use crate::top::{KEYS_END, Key, NO_TREE, Top};
 use crate::turn::turn;
 use slab::Slab;
 
@@ -19,7 +20,7 @@ pub(crate) fn between(
     nodes: &mut Slab<Node>,
     before: bool,
     near: Top,
-    key: usize,
+    key: Key,
     piece: Piece,
     far: Top,
 ) -> Top
@@ -30,10 +31,10 @@ pub(crate) fn between(
         → Joins (get nodes.old) (get nodes.new) before result key piece n f }
     ensures count { KeepsCount nodes.old nodes.new }
 {
-    if near.height > far.height + 1 {
+    if near.height() > far.height() + 1 {
         return turn(nodes, before, near, key, piece, far);
     }
-    if far.height > near.height + 1 {
+    if far.height() > near.height() + 1 {
         return turn(nodes, !before, far, key, piece, near);
     }
     link(nodes, before, near, key, piece, far)
@@ -45,7 +46,7 @@ pub(crate) fn graft(
     nodes: &mut Slab<Node>,
     before: bool,
     near: Top,
-    key: usize,
+    key: Key,
     piece: Piece,
     far: Top,
 ) -> Top
@@ -55,10 +56,10 @@ pub(crate) fn graft(
         → Joins (get nodes.old) (get nodes.new) before result key piece n f }
     ensures count { KeepsCount nodes.old nodes.new }
 {
-    if far.height > near.height + 1 {
+    if far.height() > near.height() + 1 {
         return graft_onto(nodes, !before, far, key, piece, near);
     }
-    if near.height > far.height + 1 {
+    if near.height() > far.height() + 1 {
         return graft_onto(nodes, before, near, key, piece, far);
     }
     link(nodes, before, near, key, piece, far)
@@ -70,7 +71,7 @@ fn graft_onto(
     nodes: &mut Slab<Node>,
     before: bool,
     near: Top,
-    key: usize,
+    key: Key,
     piece: Piece,
     far: Top,
 ) -> Top
@@ -80,10 +81,12 @@ fn graft_onto(
         → Joins (get nodes.old) (get nodes.new) before result key piece n f }
     ensures count { KeepsCount nodes.old nodes.new }
 {
-    if near.height <= far.height + 1 {
+    if near.height() <= far.height() + 1 {
         return link(nodes, before, near, key, piece, far);
     }
-    let Some(top) = near.root else { unreachable!() };
+    let Some(top) = near.root() else {
+        unreachable!()
+    };
     let outer = open(nodes, before, top);
     let below = graft_onto(nodes, before, outer.far, key, piece, far);
     between(nodes, before, outer.near, top, outer.piece, below)
@@ -96,6 +99,7 @@ pub(crate) fn crown(nodes: &mut Slab<Node>, near: Top, piece: Piece, far: Top) -
         × (length (items n) + length (items f) < MOST_PIECES) }
     requires piece { IsPiece piece }
     requires room { slab_len nodes.old < nodes.old.capacity }
+    requires keys { nodes.old.capacity ≤ KEYS_END }
     ensures makes { (was : slabs.Slab Node) (n f : Shape) → Parted was nodes.old near far Empty n f → AreNear n f
         → length (items n) + length (items f) < MOST_PIECES → Makes was nodes.new result Empty (items n ++ piece ∷ items f) }
     ensures key { IsSome result.root }
@@ -106,7 +110,7 @@ pub(crate) fn crown(nodes: &mut Slab<Node>, near: Top, piece: Piece, far: Top) -
         left: near,
         right: far,
     };
-    let key = nodes.insert_reserved(node);
+    let key = nodes.insert_reserved(node) as Key;
     node.tree(key)
 }
 
@@ -115,6 +119,7 @@ pub(crate) fn crown(nodes: &mut Slab<Node>, near: Top, piece: Piece, far: Top) -
 pub(crate) fn leaf(nodes: &mut Slab<Node>, piece: Piece) -> Top
     requires piece { IsPiece piece }
     requires room { slab_len nodes.old < nodes.old.capacity }
+    requires keys { nodes.old.capacity ≤ KEYS_END }
     ensures makes { Makes nodes.old nodes.new result Empty (piece ∷ []) }
     ensures key { IsSome result.root }
     ensures height { result.height ≡ 1 }
@@ -124,15 +129,15 @@ pub(crate) fn leaf(nodes: &mut Slab<Node>, piece: Piece) -> Top
 
 /// Puts another tree on a side of a key, of any height.
 #[inline(always)]
-pub(crate) fn regraft(nodes: &mut Slab<Node>, before: bool, key: usize, tree: Top) -> Top
+pub(crate) fn regraft(nodes: &mut Slab<Node>, before: bool, key: Key, tree: Top) -> Top
     requires { (piece : Piece) × (was : Shape) × (n : Shape) × (f : Shape) × CanHang (get nodes.old) before key tree piece was n f }
     ensures joins { (piece : Piece) (was n f : Shape) → CanHang (get nodes.old) before key tree piece was n f
         → Joins (get nodes.old) (get nodes.new) before result key piece n f }
     ensures count { KeepsCount nodes.old nodes.new }
 {
-    let node = &mut nodes[key];
+    let node = &mut nodes[key as usize];
     *node.child_mut(before) = tree;
-    if node.left.height.abs_diff(node.right.height) > 1 {
+    if node.left.height().abs_diff(node.right.height()) > 1 {
         let piece = node.piece;
         let other = node.child(!before);
         return graft(nodes, before, tree, key, piece, other);
@@ -142,10 +147,11 @@ pub(crate) fn regraft(nodes: &mut Slab<Node>, before: bool, key: usize, tree: To
 
 // Adds a piece right behind the tree at a key, or right before it.
 #[cycle(add)]
-fn add_end(nodes: &mut Slab<Node>, before: bool, key: usize, piece: Piece) -> Top
+fn add_end(nodes: &mut Slab<Node>, before: bool, key: Key, piece: Piece) -> Top
     requires tree { (t : Shape) × IsTree (get nodes.old) (top_of t) t × (root_of t ≡ Some key) × (length (items t) < MOST_PIECES) }
     requires piece { IsPiece piece }
     requires room { slab_len nodes.old < nodes.old.capacity }
+    requires keys { nodes.old.capacity ≤ KEYS_END }
     ensures { (t : Shape) → IsTree (get nodes.old) (top_of t) t → root_of t ≡ Some key
         → Adds nodes.old nodes.new before result t (Some piece) }
 {
@@ -161,10 +167,11 @@ pub(crate) fn add(nodes: &mut Slab<Node>, before: bool, tree: Top, piece: Option
     requires tree { (t : Shape) × IsTree (get nodes.old) tree t × (length (items t) < MOST_PIECES) }
     requires piece { IfSome piece IsPiece }
     requires room { slab_len nodes.old + length (some_of piece) ≤ nodes.old.capacity }
+    requires keys { nodes.old.capacity ≤ KEYS_END }
     ensures { (t : Shape) → IsTree (get nodes.old) tree t → Adds nodes.old nodes.new before result t piece }
 {
     let Some(piece) = piece else { return tree };
-    let Some(key) = tree.root else {
+    let Some(key) = tree.root() else {
         return leaf(nodes, piece);
     };
     add_end(nodes, before, key, piece)

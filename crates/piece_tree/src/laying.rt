@@ -11,8 +11,9 @@ ghost use Rattle.piece_tree.specs.Tree.{Empty, IsBelow, Shape, items, uses};
 
 use crate::grafts::{add, crown, graft, leaf, regraft};
 use crate::links::open;
-use crate::node::{NO_TREE, Node, Top};
+use crate::node::Node;
 use crate::piece::{MOST_PIECES, Piece};
+use crate::top::{KEYS_END, Key, NO_TREE, Top};
 use slab::Slab;
 
 /// The trees before and behind a key whose piece goes.
@@ -24,23 +25,23 @@ pub(crate) struct Flanks {
 
 // Takes all pieces of the tree at a key out.
 #[cycle(remove_below)]
-fn remove_at(nodes: &mut Slab<Node>, key: usize)
+fn remove_at(nodes: &mut Slab<Node>, key: Key)
     requires { (t : Shape) × IsBelow (get nodes.old) (Some key) t × ((k : ℕ) → uses t k ≤ 1) }
     ensures { (t : Shape) → IsBelow (get nodes.old) (Some key) t → ((k : ℕ) → uses t k ≤ 1) → Removes nodes.old nodes.new t }
 {
-    let node = nodes.remove(key);
-    remove_below(nodes, node.left.root);
-    remove_below(nodes, node.right.root);
+    let node = nodes.remove(key as usize);
+    remove_below(nodes, node.left);
+    remove_below(nodes, node.right);
 }
 
 /// Takes all pieces of a tree out.
 #[inline(always)]
 #[cycle(remove_below)]
-pub(crate) fn remove_below(nodes: &mut Slab<Node>, root: Option<usize>)
-    requires { (t : Shape) × IsBelow (get nodes.old) root t × ((k : ℕ) → uses t k ≤ 1) }
-    ensures { (t : Shape) → IsBelow (get nodes.old) root t → ((k : ℕ) → uses t k ≤ 1) → Removes nodes.old nodes.new t }
+pub(crate) fn remove_below(nodes: &mut Slab<Node>, tree: Top)
+    requires { (t : Shape) × IsBelow (get nodes.old) tree.root t × ((k : ℕ) → uses t k ≤ 1) }
+    ensures { (t : Shape) → IsBelow (get nodes.old) tree.root t → ((k : ℕ) → uses t k ≤ 1) → Removes nodes.old nodes.new t }
 {
-    if let Some(key) = root {
+    if let Some(key) = tree.root() {
         remove_at(nodes, key);
     }
 }
@@ -50,6 +51,7 @@ pub(crate) fn build(nodes: &mut Slab<Node>, pieces: &[Piece]) -> Top
     requires pieces { AllByRecursion IsPiece pieces.now }
     requires few { length pieces.now ≤ MOST_PIECES }
     requires room { slab_len nodes.old + length pieces.now ≤ nodes.old.capacity }
+    requires keys { nodes.old.capacity ≤ KEYS_END }
     ensures makes { Makes nodes.old nodes.new result Empty pieces.now }
     ensures height { IsLeastHeight (length pieces.now) result.height }
 {
@@ -126,19 +128,19 @@ fn trim(nodes: &mut Slab<Node>, before: bool, tree: Top, page: u64) -> Top
     ensures { (t : Shape) (from : ℕ) → IsTree (get nodes.old) tree t → AreSorted from (items t)
         → Makes nodes.old nodes.new result t (part_beside before page (items t)) }
 {
-    let Some(key) = tree.root else { return tree };
+    let Some(key) = tree.root() else { return tree };
     let opened = open(nodes, before, key);
     if lies_beside(opened.piece, !before, page) {
         let far = trim(nodes, before, opened.far, page);
         return regraft(nodes, !before, key, far);
     }
-    remove_below(nodes, opened.far.root);
+    remove_below(nodes, opened.far);
     if lies_beside(opened.piece, before, page) {
-        nodes.remove(key);
+        nodes.remove(key as usize);
         return trim(nodes, before, opened.near, page);
     }
     let Some(rest) = rest_beside(opened.piece, before, page) else {
-        nodes.remove(key);
+        nodes.remove(key as usize);
         return opened.near;
     };
     graft(nodes, before, opened.near, key, rest, NO_TREE)
@@ -158,7 +160,7 @@ fn keep(nodes: &mut Slab<Node>, before: bool, tree: Top, beside: Piece, page: u6
 
 // Takes the pages from a first to a last one out of a tree, of which the piece at its root has one.
 #[inline(always)]
-fn clear_pages(nodes: &mut Slab<Node>, key: usize, first: u64, last: u64) -> Flanks
+fn clear_pages(nodes: &mut Slab<Node>, key: Key, first: u64, last: u64) -> Flanks
     requires { (t : Shape) × (row : List Piece) × CanReplace nodes.old key first row last t }
     ensures { (t : Shape) (row : List Piece) → CanReplace nodes.old key first row last t
         → Flanked nodes.old nodes.new result.before key result.behind t row (with_row first row last (items t)) }
@@ -173,7 +175,7 @@ fn clear_pages(nodes: &mut Slab<Node>, key: usize, first: u64, last: u64) -> Fla
 
 /// Puts a row of pieces over others of a tree, of which one is at its root.
 #[inline(always)]
-pub(crate) fn replace(nodes: &mut Slab<Node>, key: usize, row: &[Piece]) -> Top
+pub(crate) fn replace(nodes: &mut Slab<Node>, key: Key, row: &[Piece]) -> Top
     requires { (t : Shape) × (first : ℕ) × (last : ℕ) × CanReplace nodes.old key first row.now last t }
     ensures { (t : Shape) (first last : ℕ) → CanReplace nodes.old key first row.now last t
         → Makes nodes.old nodes.new result t (with_row first row.now last (items t)) }
@@ -189,6 +191,8 @@ pub(crate) fn replace(nodes: &mut Slab<Node>, key: usize, row: &[Piece]) -> Top
     let middle = build(nodes, others);
     let near = graft(nodes, true, flanks.before, key, *first, middle);
     let end = leaf(nodes, *last);
-    let Some(key) = end.root else { unreachable!() };
+    let Some(key) = end.root() else {
+        unreachable!()
+    };
     graft(nodes, true, near, key, *last, flanks.behind)
 }

@@ -23,9 +23,9 @@ mod links;
 mod node;
 mod piece;
 mod search;
-mod stretches;
 #[cfg(test)]
 mod tests;
+mod top;
 mod tree;
 mod turn;
 mod way;

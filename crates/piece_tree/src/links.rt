@@ -6,8 +6,9 @@ ghost use Rattle.piece_tree.specs.Pieces.{IsPiece};
 ghost use Rattle.piece_tree.specs.declared.node.Node.{Node};
 ghost use Rattle.piece_tree.specs.Tree.{AreNear, AreParts, IsBelow, KeepsCount, Links, Opens, Shape, free_pages};
 
-use crate::node::{Node, Opened, Top};
+use crate::node::{Node, Opened};
 use crate::piece::Piece;
+use crate::top::{Key, Top};
 use slab::Slab;
 
 /// The pages of a piece, if they are free.
@@ -24,11 +25,11 @@ pub(crate) fn free_length(piece: Piece) -> u64
 
 /// What lies at a key.
 #[inline(always)]
-pub(crate) fn open(nodes: &Slab<Node>, before: bool, key: usize) -> Opened
+pub(crate) fn open(nodes: &Slab<Node>, before: bool, key: Key) -> Opened
     requires { (t : Shape) × IsBelow (get nodes.now) (Some key) t }
     ensures { (t : Shape) → IsBelow (get nodes.now) (Some key) t → Opens before key result t }
 {
-    let node = &nodes[key];
+    let node = &nodes[key as usize];
     Opened {
         piece: node.piece,
         near: node.child(before),
@@ -41,7 +42,7 @@ pub(crate) fn link(
     nodes: &mut Slab<Node>,
     before: bool,
     near: Top,
-    key: usize,
+    key: Key,
     piece: Piece,
     far: Top,
 ) -> Top
@@ -52,13 +53,13 @@ pub(crate) fn link(
     ensures count { KeepsCount nodes.old nodes.new }
 {
     let node = Node::joint_at(before, piece, near, far);
-    nodes[key] = node;
+    nodes[key as usize] = node;
     node.tree(key)
 }
 
 /// Puts another piece under a key. Answers how much is longest from there down then.
 #[inline(always)]
-pub(crate) fn set_piece(nodes: &mut Slab<Node>, key: usize, piece: Piece) -> u64
+pub(crate) fn set_piece(nodes: &mut Slab<Node>, key: Key, piece: Piece) -> u64
     requires there { IsSome (get nodes.old key) }
     requires piece { IsPiece piece }
     ensures updates { (n : Node) → get nodes.old key ≡ Some n → Updates nodes.old nodes.new key (Some (record n { piece = piece })) }
@@ -66,7 +67,7 @@ pub(crate) fn set_piece(nodes: &mut Slab<Node>, key: usize, piece: Piece) -> u64
         → result ≡ max (free_pages piece) (max n.left.longest n.right.longest) }
     ensures count { KeepsCount nodes.old nodes.new }
 {
-    let node = &mut nodes[key];
+    let node = &mut nodes[key as usize];
     node.piece = piece;
     node.longest()
 }

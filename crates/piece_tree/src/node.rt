@@ -1,38 +1,14 @@
 //! Nodes of the tree of pieces.
 
 ghost use Rattle.std.specs.Borrow.{sem};
-ghost use Rattle.std.specs.Prelude.{◌≡◌, ◌<◌, ◌↔◌, IsTrue, true, false};
+ghost use Rattle.std.specs.Prelude.{◌≡◌, ◌<◌, true, false};
 ghost use Rattle.piece_tree.specs.Lending.{LendsChild};
 ghost use Rattle.piece_tree.specs.Pieces.{IsPiece};
 ghost use Rattle.piece_tree.specs.Tree.{joint_at, longest_at, tree_at};
 
 use crate::links::free_length;
 use crate::piece::Piece;
-
-/// A tree as it is handed on: the key of its root, how many nodes lie on the longest way down, and the greatest length of a free piece.
-#[derive(Clone, Copy)]
-pub(crate) struct Top {
-    pub(crate) root: Option<usize>,
-    pub(crate) height: u64,
-    pub(crate) longest: u64,
-}
-
-impl Top {
-    /// Whether it has the root and the height of another one.
-    #[inline(always)]
-    pub(crate) fn stands_as(self, other: Top) -> bool
-        ensures { IsTrue result ↔ ((self.root ≡ other.root) × (self.height ≡ other.height)) }
-    {
-        self.root == other.root && self.height == other.height
-    }
-}
-
-/// The top of the tree that has no piece.
-pub(crate) const NO_TREE: Top = Top {
-    root: None,
-    height: 0,
-    longest: 0,
-};
+use crate::top::{Key, Top};
 
 /// A piece in the tree, named by its key, and the trees before it and behind it: so no child is read but on the way down to it.
 #[derive(Clone, Copy)]
@@ -93,23 +69,20 @@ impl Node {
         requires { IsPiece self.now.piece }
         ensures { result ≡ longest_at self.now }
     {
-        let below = self.left.longest.max(self.right.longest);
+        let below = self.left.longest().max(self.right.longest());
         free_length(self.piece).max(below)
     }
 
     /// The tree that it is the root of, under its key.
     #[inline(always)]
-    pub(crate) fn tree(&self, key: usize) -> Top
+    pub(crate) fn tree(&self, key: Key) -> Top
         requires piece { IsPiece self.now.piece }
         requires left { self.now.left.height < 1000 }
         requires right { self.now.right.height < 1000 }
         ensures { result ≡ tree_at key self.now }
     {
-        Top {
-            root: Some(key),
-            height: 1 + self.left.height.max(self.right.height),
-            longest: self.longest(),
-        }
+        let height = 1 + self.left.height().max(self.right.height());
+        Top::of(key, height, self.longest())
     }
 }
 

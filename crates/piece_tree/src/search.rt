@@ -9,8 +9,9 @@ ghost use Rattle.piece_tree.specs.Tree.{IsWhole, Shape, items, pieces_of};
 ghost use Rattle.piece_tree.specs.Way.{IsHand};
 
 use crate::links::free_length;
-use crate::node::{Node, Top};
+use crate::node::Node;
 use crate::piece::{NUMBERS_END, Piece};
+use crate::top::Top;
 use crate::way::{Held, MOST_HEIGHT, Step, step_above};
 use slab::Slab;
 
@@ -19,14 +20,14 @@ pub(crate) fn find(nodes: &Slab<Node>, root: Top, page: u64) -> Option<Piece>
     requires { (t : Shape) × IsWhole nodes.now root t }
     ensures { result ≡ piece_at (pieces_of nodes.now root) page }
 {
-    let mut at = root.root;
+    let mut at = root.root();
     while let Some(key) = at {
-        let node = &nodes[key];
+        let node = &nodes[key as usize];
         let before = page < node.piece.first;
         if !before && page <= node.piece.last {
             return Some(node.piece);
         }
-        at = node.child(before).root;
+        at = node.child(before).root();
     }
     None
 }
@@ -37,14 +38,14 @@ pub(crate) fn first_from(nodes: &Slab<Node>, root: Top, page: u64) -> Option<Pie
     ensures { result ≡ first_of (pieces_from page (pieces_of nodes.now root)) }
 {
     let mut found = None;
-    let mut at = root.root;
+    let mut at = root.root();
     while let Some(key) = at {
-        let node = &nodes[key];
+        let node = &nodes[key as usize];
         if node.piece.first < page {
-            at = node.right.root;
+            at = node.right.root();
         } else {
             found = Some(node.piece);
-            at = node.left.root;
+            at = node.left.root();
         }
     }
     found
@@ -56,16 +57,16 @@ pub(crate) fn are_short_before(nodes: &Slab<Node>, root: Top, page: u64, pages: 
     ensures { IsTrue result ↔ AllByRecursion (IsShortBefore page pages) (pieces_of nodes.now root) }
 {
     let mut at = root;
-    while let Some(key) = at.root {
-        if at.longest < pages {
+    while let Some(key) = at.root() {
+        if at.longest() < pages {
             return true;
         }
-        let node = &nodes[key];
+        let node = &nodes[key as usize];
         if page <= node.piece.first {
             at = node.left;
         } else {
             // All on its left begin before the page, too.
-            if free_length(node.piece) >= pages || node.left.longest >= pages {
+            if free_length(node.piece) >= pages || node.left.longest() >= pages {
                 return false;
             }
             at = node.right;
@@ -113,7 +114,7 @@ fn goes_before(node: &Node, passed: bool, low: u64, pages: u64, unit: u64) -> bo
     ensures goes { result ≡ true → (passed ≡ false) × (pages ≤ node.now.left.longest) }
     ensures stays { result ≡ false → passed ≡ false → IsNarrowBefore low pages unit node.now }
 {
-    !passed && node.left.longest >= pages && round_up(low, unit) + pages <= node.piece.first
+    !passed && node.left.longest() >= pages && round_up(low, unit) + pages <= node.piece.first
 }
 
 /// The first start of so many free pages from a floor on that is a multiple of the unit, and the way to the piece. It goes through the
@@ -137,19 +138,19 @@ pub(crate) fn go_fit(
     ensures none { (t : Shape) → IsWhole nodes.now root t
         → IfNone result (AllByRecursion (HasNoRoom floor pages unit) (items t)) }
 {
-    if root.longest < pages {
+    if root.longest() < pages {
         return None;
     }
-    let mut at = root.root;
+    let mut at = root.root();
     let mut depth = 0;
     let mut low = floor;
     // Whether what lies before the piece was gone through.
     let mut passed = false;
     while let Some(key) = at {
-        let node = &nodes[key];
+        let node = &nodes[key as usize];
         if goes_before(node, passed, low, pages, unit) {
             way[depth] = Step { key, before: true };
-            at = node.left.root;
+            at = node.left.root();
             depth += 1;
             continue;
         }
@@ -159,13 +160,13 @@ pub(crate) fn go_fit(
         }
         // All pieces behind begin behind this one.
         low = low.max(node.piece.last + 1);
-        passed = node.right.longest < pages;
+        passed = node.right.longest() < pages;
         if passed {
-            depth = step_above(way, depth, true)?;
+            depth = step_above(way, depth)?;
             at = Some(way[depth].key);
         } else {
             way[depth] = Step { key, before: false };
-            at = node.right.root;
+            at = node.right.root();
             depth += 1;
         }
     }

@@ -38,16 +38,6 @@ fn lays_row(tree: &mut PieceTree, first: u64, last: u64, row: &[Piece]) -> bool
     true
 }
 
-// Makes pages free, where there are few enough pieces.
-fn frees(tree: &mut PieceTree, first: u64, last: u64) -> Option<u64> {
-    if tree.len() + 2 > MOST_PIECES || first > last {
-        return None;
-    }
-    tree.piece_at(first)?;
-    tree.piece_at(last)?;
-    Some(tree.free(first, last))
-}
-
 // The first start of so many free pages that is a multiple of four.
 fn fits(tree: &mut PieceTree, floor: u64, pages: u64) -> Option<u64>
     requires floor { floor ≤ NUMBERS_END }
@@ -116,7 +106,6 @@ fn lays_rows(rt: HostRuntime) -> Result<(), Fail> {
         state: PageState::Live,
     });
     lay_rows(&rt, &mut tree);
-    free_pages(&rt, &mut tree);
     Ok(())
 }
 
@@ -156,28 +145,6 @@ fn lay_rows(rt: &impl Abort, tree: &mut PieceTree) {
     assert!(rt; tree.len() == 6);
     assert!(rt; tree.piece_at(90) == piece(41, 90, PageState::Live));
     assert!(rt; tree.piece_at(91) == piece(91, 100, PageState::Free));
-}
-
-// Pages come free, as one piece with what is free beside them, on either side and on both.
-fn free_pages(rt: &impl Abort, tree: &mut PieceTree) {
-    assert!(rt; frees(tree, 60, 69) == Some(60));
-    assert!(rt; tree.piece_at(60) == piece(60, 69, PageState::Free));
-    assert!(rt; tree.len() == 8);
-    assert!(rt; frees(tree, 21, 30) == Some(11));
-    assert!(rt; tree.piece_at(25) == piece(11, 40, PageState::Free));
-    assert!(rt; tree.len() == 6);
-    assert!(rt; frees(tree, 41, 50) == Some(11));
-    assert!(rt; tree.piece_at(50) == piece(11, 50, PageState::Free));
-    assert!(rt; tree.piece_at(51) == piece(51, 59, PageState::Live));
-    assert!(rt; frees(tree, 85, 90) == Some(85));
-    assert!(rt; tree.piece_at(90) == piece(85, 100, PageState::Free));
-    assert!(rt; tree.len() == 6);
-    assert!(rt; frees(tree, 51, 84) == Some(11));
-    assert!(rt; tree.piece_at(100) == piece(11, 100, PageState::Free));
-    assert!(rt; frees(tree, 101, 101) == None);
-    assert!(rt; frees(tree, 1, 10) == Some(1));
-    assert!(rt; long(tree, 100) == piece(1, 100, PageState::Free));
-    assert!(rt; tree.len() == 1);
 }
 
 // As many pieces as there can be: each is found.
@@ -254,26 +221,6 @@ fn join_at(rt: &impl Abort, tree: &mut PieceTree, pieces: u64, first: u64, end: 
     assert!(rt; long(tree, 10 * (end - first) + 1) == None);
     stay(rt, tree, 0, first);
     stay(rt, tree, end, pieces);
-    free_beside(rt, tree, pieces, first, end);
-}
-
-// What comes free beside the free piece is one with it: the page before it, and the ten behind it.
-fn free_beside(rt: &impl Abort, tree: &mut PieceTree, pieces: u64, first: u64, end: u64)
-    requires some { first < end }
-    requires pieces { pieces ≤ 20 }
-    requires end { end ≤ pieces }
-{
-    let mut low = 10 * first;
-    if 0 < low {
-        assert!(rt; frees(tree, low - 1, low - 1) == Some(low - 1));
-        low -= 1;
-    }
-    let mut high = 10 * end;
-    if end < pieces {
-        assert!(rt; frees(tree, high, high + 9) == Some(low));
-        high += 10;
-    }
-    assert!(rt; tree.piece_at(low) == piece(low, high - 1, PageState::Free));
 }
 
 // Pieces of ten pages each, and one with the pages behind them.

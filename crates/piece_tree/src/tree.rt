@@ -3,12 +3,12 @@
 ghost use Rattle.std.specs.Prelude.{◌≡◌, ◌+◌, ◌^◌, ◌<◌, ◌≤◌, ◌↔◌, [], ◌∷◌, ◌++◌, ℕ, List, length, IfOk, IfSome, IfNone, IsSome, IsTrue};
 ghost use Rattle.std.specs.Prelude.{Some, true, false};
 
-use crate::edits::{lay_over, lay_stretch};
+use crate::edits::{lay_over, lay_piece};
 use crate::grafts::add;
-use crate::node::{NO_TREE, Node, Top};
-use crate::piece::{MOST_PIECES, NUMBERS_END, PageState, Piece};
+use crate::node::Node;
+use crate::piece::{MOST_PIECES, NUMBERS_END, Piece};
 use crate::search::{are_short_before, find, first_from, go_fit};
-use crate::stretches::{Stretch, with_free_ends};
+use crate::top::{KEYS_END, NO_TREE, Top};
 use crate::way::{Held, MOST_HEIGHT, NO_STEP, Step, reach};
 use slab::Slab;
 use std::alloc::{AllocError, Global};
@@ -40,7 +40,6 @@ impl Model for PieceTree {
 }
 
 impl PieceTree {
-    ghost use Rattle.piece_tree.specs.Freed.{free_start, with_free};
     ghost use Rattle.piece_tree.specs.Pieces.{AreSorted, piece_at};
     ghost use Rattle.piece_tree.specs.Laid.{IsRow, with_piece, with_row};
     ghost use Rattle.piece_tree.specs.Search.{HasNoRoom, IsFound, IsShortBefore, first_of, pieces_from};
@@ -50,9 +49,14 @@ impl PieceTree {
     pub fn new(alloc: Global) -> Result<PieceTree, AllocError>
         ensures { IfOk result (λ tree. tree ≡ []) }
     {
+        let nodes = Slab::with_capacity(alloc, MOST_PIECES)?;
+        // A node whose key is no `Key` couldn't be named: so much memory was got, and is of no use.
+        if nodes.capacity() > KEYS_END {
+            return Err(AllocError);
+        }
         Ok(PieceTree {
             root: NO_TREE,
-            nodes: Slab::with_capacity(alloc, MOST_PIECES)?,
+            nodes,
             way: [NO_STEP; MOST_HEIGHT],
             hand: None,
         })
@@ -124,7 +128,7 @@ impl PieceTree {
         self.hand = None;
         let fit = go_fit(&self.nodes, self.root, floor, pages, unit, &mut self.way)?;
         self.hand = Some(fit.held);
-        Some((fit.start, self.nodes[fit.held.key].piece))
+        Some((fit.start, self.nodes[fit.held.key as usize].piece))
     }
 
     /// Puts a piece over those that are there: its first page lies in one of them, and its last page. What is left of these stays.
@@ -135,7 +139,7 @@ impl PieceTree {
         requires room { length (with_piece piece self.old) ≤ MOST_PIECES }
         ensures { self.new ≡ with_piece piece self.old }
     {
-        let place = reach(
+        let held = reach(
             &self.nodes,
             self.root,
             piece.first,
@@ -143,58 +147,9 @@ impl PieceTree {
             &mut self.way,
             self.hand,
         );
-        let Some(key) = place.at else { unreachable!() };
-        let stretch = Stretch {
-            held: Held {
-                key,
-                depth: place.depth,
-            },
-            first: piece.first,
-            last: piece.last,
-        };
-        let laid = lay_stretch(&mut self.nodes, self.root, &self.way, stretch, piece.state);
+        let laid = lay_piece(&mut self.nodes, self.root, &self.way, held, piece);
         self.root = laid.root;
         self.hand = laid.hand;
-    }
-
-    /// Makes the pages from a first to a last one free, as one piece with the free ones that they touch: each of the two lies in a piece.
-    /// Answers the first page of that piece.
-    pub fn free(&mut self, first: u64, last: u64) -> u64
-        requires first { IsSome (piece_at self.old first) }
-        requires last { IsSome (piece_at self.old last) }
-        requires some { first ≤ last }
-        requires room { length (with_free (record { first = first; last = last; state = PageState.Free }) self.old) ≤ MOST_PIECES }
-        ensures free { self.new ≡ with_free (record { first = first; last = last; state = PageState.Free }) self.old }
-        ensures first { result ≡ free_start self.old first }
-    {
-        let place = reach(
-            &self.nodes,
-            self.root,
-            first,
-            last,
-            &mut self.way,
-            self.hand,
-        );
-        let Some(key) = place.at else { unreachable!() };
-        let stretch = Stretch {
-            held: Held {
-                key,
-                depth: place.depth,
-            },
-            first,
-            last,
-        };
-        let whole = with_free_ends(&self.nodes, &self.way, stretch);
-        let laid = lay_stretch(
-            &mut self.nodes,
-            self.root,
-            &self.way,
-            whole,
-            PageState::Free,
-        );
-        self.root = laid.root;
-        self.hand = laid.hand;
-        whole.first
     }
 
     /// Puts a row of pieces, each right behind the one before it, over some pages of one piece. What is left of it stays.
@@ -206,7 +161,7 @@ impl PieceTree {
         let (Some(first), Some(last)) = (row.first(), row.last()) else {
             unreachable!()
         };
-        let place = reach(
+        let held = reach(
             &self.nodes,
             self.root,
             first.first,
@@ -214,12 +169,8 @@ impl PieceTree {
             &mut self.way,
             self.hand,
         );
-        let Some(key) = place.at else { unreachable!() };
-        let held = Held {
-            key,
-            depth: place.depth,
-        };
-        self.hand = None;
-        self.root = lay_over(&mut self.nodes, self.root, &self.way, held, row);
+        let laid = lay_over(&mut self.nodes, self.root, &self.way, held, row);
+        self.root = laid.root;
+        self.hand = laid.hand;
     }
 }

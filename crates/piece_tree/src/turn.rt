@@ -6,8 +6,9 @@ ghost use Rattle.piece_tree.specs.Pieces.{IsPiece};
 ghost use Rattle.piece_tree.specs.Tree.{AreParts, Joins, KeepsCount, Shape, height_of};
 
 use crate::links::{link, open};
-use crate::node::{Node, Top};
+use crate::node::Node;
 use crate::piece::Piece;
+use crate::top::{Key, Top};
 use slab::Slab;
 
 /// Joins a tree on one side of a key with one on its other side that is lower by two. Its root is raised over the key, or the root of its
@@ -16,7 +17,7 @@ pub(crate) fn turn(
     nodes: &mut Slab<Node>,
     before: bool,
     high: Top,
-    key: usize,
+    key: Key,
     piece: Piece,
     low: Top,
 ) -> Top
@@ -26,13 +27,15 @@ pub(crate) fn turn(
         → Joins (get nodes.old) (get nodes.new) before result key piece n f }
     ensures count { KeepsCount nodes.old nodes.new }
 {
-    let Some(top) = high.root else { unreachable!() };
+    let Some(top) = high.root() else {
+        unreachable!()
+    };
     let outer = open(nodes, before, top);
-    if outer.far.height <= outer.near.height {
+    if outer.far.height() <= outer.near.height() {
         let below = link(nodes, before, outer.far, key, piece, low);
         return link(nodes, before, outer.near, top, outer.piece, below);
     }
-    let Some(middle) = outer.far.root else {
+    let Some(middle) = outer.far.root() else {
         unreachable!()
     };
     let inner = open(nodes, before, middle);

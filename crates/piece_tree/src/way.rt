@@ -1,13 +1,14 @@
 //! Ways down a tree, and back up once what lies at their end has changed.
 
-ghost use Rattle.std.specs.Prelude.{◌≡◌, ◌<◌, ◌≤◌, not, ◌++◌, ◌∷◌, ℕ, List, Option, Some, IfSome, IfNone};
+ghost use Rattle.std.specs.Prelude.{◌≡◌, ◌<◌, ◌≤◌, IfSome, IfNone, IsSome};
 ghost use Rattle.slab.specs.Slab.{get};
-ghost use Rattle.piece_tree.specs.Pieces.{HasAny};
-ghost use Rattle.piece_tree.specs.Tree.{IsWhole, KeepsCount, Shape};
-ghost use Rattle.piece_tree.specs.Way.{Above, AreSteps, CanLift, CanMend, GoesOn, IsAtHand, IsStepAbove, Leads, Mends};
+ghost use Rattle.piece_tree.specs.Pieces.{piece_at};
+ghost use Rattle.piece_tree.specs.Tree.{IsWhole, KeepsCount, Shape, items};
+ghost use Rattle.piece_tree.specs.Way.{Above, AreSteps, CanLift, CanMend, GoesBehind, IsAtHand, IsStepAbove, Mends, Reaches};
 
 use crate::grafts::regraft;
-use crate::node::{Node, Top};
+use crate::node::Node;
+use crate::top::{Key, Top};
 use slab::Slab;
 
 /// The greatest height of a tree, and so the most steps of a way down.
@@ -16,7 +17,7 @@ pub(crate) const MOST_HEIGHT: usize = 14;
 /// A step down: a key, and whether the way goes on before it.
 #[derive(Clone, Copy)]
 pub(crate) struct Step {
-    pub(crate) key: usize,
+    pub(crate) key: Key,
     pub(crate) before: bool,
 }
 
@@ -26,48 +27,35 @@ pub(crate) const NO_STEP: Step = Step {
     before: false,
 };
 
-/// Where a way ends: the root of what lies there, and how many steps lead to it.
-#[derive(Clone, Copy)]
-pub(crate) struct Place {
-    pub(crate) at: Option<usize>,
-    pub(crate) depth: usize,
-}
-
 /// Where a piece lies: its key, and how many steps lead to it.
 #[derive(Clone, Copy)]
 pub(crate) struct Held {
-    pub(crate) key: usize,
+    pub(crate) key: Key,
     pub(crate) depth: usize,
 }
 
-/// Goes down to the highest piece that has one of the pages from a first to a last one, or to where they would be.
-pub(crate) fn walk(
-    nodes: &Slab<Node>,
-    root: Top,
-    first: u64,
-    last: u64,
-    way: &mut [Step; MOST_HEIGHT],
-) -> Place
-    requires { (t : Shape) × IsWhole nodes.now root t }
-    ensures leads { (t : Shape) → IsWhole nodes.now root t → Leads way.new first last result t }
-    ensures has { IfSome result.at (λ key. (n : Node) × (get nodes.now key ≡ Some n) × HasAny n.piece first last) }
+// Goes down to the highest piece that has one of the pages from a first to a last one: some piece has the first.
+fn walk(nodes: &Slab<Node>, root: Top, first: u64, last: u64, way: &mut [Step; MOST_HEIGHT]) -> Held
+    requires tree { (t : Shape) × IsWhole nodes.now root t × IsSome (piece_at (items t) first) }
+    requires pages { first ≤ last }
+    ensures { (t : Shape) → IsWhole nodes.now root t → Reaches nodes.now way.new first last result t }
 {
-    let mut at = root.root;
+    let mut at = root.root();
     let mut depth = 0;
     while let Some(key) = at {
-        let node = &nodes[key];
+        let node = &nodes[key as usize];
         let before = last < node.piece.first;
         if !before && first <= node.piece.last {
-            return Place { at, depth };
+            return Held { key, depth };
         }
         way[depth] = Step { key, before };
-        at = node.child(before).root;
+        at = node.child(before).root();
         depth += 1;
     }
-    Place { at, depth }
+    unreachable!()
 }
 
-/// The same, where it may be the piece at hand.
+/// The highest piece that has one of the pages from a first to a last one, of which some piece has the first. It may be the one at hand.
 pub(crate) fn reach(
     nodes: &Slab<Node>,
     root: Top,
@@ -75,36 +63,32 @@ pub(crate) fn reach(
     last: u64,
     way: &mut [Step; MOST_HEIGHT],
     hand: Option<Held>,
-) -> Place
-    requires tree { (t : Shape) × IsWhole nodes.now root t × IsAtHand way.old hand t }
+) -> Held
+    requires tree { (t : Shape) × IsWhole nodes.now root t × IsAtHand way.old hand t × IsSome (piece_at (items t) first) }
     requires pages { first ≤ last }
-    ensures leads { (t : Shape) → IsWhole nodes.now root t → IsAtHand way.old hand t → Leads way.new first last result t }
-    ensures has { IfSome result.at (λ key. (n : Node) × (get nodes.now key ≡ Some n) × HasAny n.piece first last) }
+    ensures { (t : Shape) → IsWhole nodes.now root t → IsAtHand way.old hand t → Reaches nodes.now way.new first last result t }
 {
     if let Some(held) = hand {
-        let piece = nodes[held.key].piece;
+        let piece = nodes[held.key as usize].piece;
         if piece.first <= first && last <= piece.last {
-            return Place {
-                at: Some(held.key),
-                depth: held.depth,
-            };
+            return held;
         }
     }
     walk(nodes, root, first, last, way)
 }
 
-/// The last step that goes on before its key, or behind it: how many steps lead to that key.
+/// The last step that goes on before its key: how many steps lead to that key.
 #[inline(always)]
-pub(crate) fn step_above(way: &[Step; MOST_HEIGHT], steps: usize, before: bool) -> Option<usize>
+pub(crate) fn step_above(way: &[Step; MOST_HEIGHT], steps: usize) -> Option<usize>
     requires { (path : Above) × AreSteps way.now steps path × (steps ≤ MOST_HEIGHT) }
     ensures few { IfSome result (λ depth. depth < steps) }
-    ensures some { (path : Above) → AreSteps way.now steps path → IfSome result (λ depth. IsStepAbove way.now before depth path) }
-    ensures none { (path : Above) → AreSteps way.now steps path → IfNone result (GoesOn (not before) path) }
+    ensures some { (path : Above) → AreSteps way.now steps path → IfSome result (λ depth. IsStepAbove way.now depth path) }
+    ensures none { (path : Above) → AreSteps way.now steps path → IfNone result (GoesBehind path) }
 {
     let mut depth = steps;
     while depth > 0 {
         depth -= 1;
-        if way[depth].before == before {
+        if way[depth].before {
             return Some(depth);
         }
     }
@@ -130,8 +114,8 @@ pub(crate) fn mend(
     let mut top = end;
     while depth > 0 {
         let step = way[depth - 1];
-        if nodes[step.key].child(step.before).stands_as(top) {
-            return lift(nodes, way, depth, root, top.longest);
+        if nodes[step.key as usize].child(step.before).stands_as(top) {
+            return lift(nodes, way, depth, root, top.longest());
         }
         top = regraft(nodes, step.before, step.key, top);
         depth -= 1;
@@ -159,16 +143,15 @@ pub(crate) fn lift(
     while depth > 0 {
         depth -= 1;
         let step = way[depth];
-        let node = &mut nodes[step.key];
+        let node = &mut nodes[step.key as usize];
         let child = node.child_mut(step.before);
-        if child.longest == now {
+        if child.longest() == now {
             return root;
         }
-        child.longest = now;
+        child.set_longest(now);
         now = node.longest();
     }
-    Top {
-        longest: now,
-        ..root
-    }
+    let mut top = root;
+    top.set_longest(now);
+    top
 }

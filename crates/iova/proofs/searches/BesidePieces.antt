@@ -1,7 +1,5 @@
 -- The piece of a page is one of those in order.
-use Rattle.std.proofs.Common.{◌≡◌, ℕ, List, Option, Some, None, IfSome, sym}
-use Rattle.piece_tree.specs.declared.piece.Piece.{Piece}
-use Rattle.piece_tree.specs.Pieces.{AreSorted, IsPiece, piece_at}
+use Rattle.iova.proofs.Names.{◌≡◌, ℕ, List, Option, Some, None, IfSome, sym, Piece, AreSorted, IsPiece, piece_at}
 use Rattle.iova.proofs.Sorted.{sorted_in}
 use Rattle.iova.proofs.searches.CutAt.{at_in}
 

@@ -1,13 +1,11 @@
 -- The piece that a page lies in, and the lowest start where one was found.
-use Rattle.std.proofs.Common.{◌≡◌, ℕ, ◌+◌, ◌<◌, ◌≤◌, max, List, [], ◌∷◌, ◌++◌, Some, None, IsTrue, refl, sym, ◌∙◌, subst, arith}
-use Rattle.std.specs.List.{AllByRecursion}
-use Rattle.std.proofs.lemmas.Bool.Decides.{nat_tests}
-use Rattle.piece_tree.specs.declared.piece.Piece.{Piece}
-use Rattle.piece_tree.specs.Pieces.{is_free, piece_at}
-use Rattle.piece_tree.specs.Search.{HasNoRoom, IsFound, IsRoundUp}
-use Rattle.iova.specs.Pieces.{IsOrdered}
-use Rattle.iova.specs.Space.{IsLowestFit}
-use Rattle.iova.proofs.searches.Fit.{IsLowestAbove, fits_here, fits_tail, fits_cons, free_state}
+use Rattle.iova.proofs.Names.{◌≡◌, ℕ, ◌+◌, ◌<◌, ◌≤◌, max, List, [], ◌∷◌, ◌++◌, Some, None, IsTrue, refl, sym, ◌⊎◌, inl, inr, subst, arith}
+use Rattle.iova.proofs.Names.{AllByRecursion, nat_tests, Piece, Holds, is_free, piece_at, HasNoRoom, IsFound, IsRoundUp, IsOrdered, IsIn}
+use Rattle.iova.proofs.Names.{IsLowestFit}
+use Rattle.iova.proofs.Pieces.{order}
+use Rattle.iova.proofs.Among.{in_le}
+use Rattle.iova.proofs.searches.Fit.{IsLowestAbove, fits_here, fits_tail, fits_cons}
+use Rattle.iova.proofs.Puts.{free_state}
 
 pub at-nil : (page : ℕ) → piece_at [] page ≡ None
 unfolding piece_at
@@ -17,17 +15,30 @@ pub at-here : (p : Piece) (ps : List Piece) (page : ℕ) → p.first ≤ page �
 unfolding piece_at
 at-here p ps page l h = grind (arith, nat_tests)
 
-pub at-under : (p : Piece) (ps : List Piece) (page : ℕ) → page < p.first → piece_at (p ∷ ps) page ≡ piece_at ps page
-unfolding piece_at
-at-under p ps page h = grind (arith, nat_tests)
-
-pub at-past : (p : Piece) (ps : List Piece) (page : ℕ) → p.last < page → piece_at (p ∷ ps) page ≡ piece_at ps page
-unfolding piece_at
-at-past p ps page h = grind (arith, nat_tests)
-
 pub at_none : (from : ℕ) (ps : List Piece) (page : ℕ) → IsOrdered from ps → page < from → piece_at ps page ≡ None
-at_none from [] page o h = at-nil page
-at_none from (p ∷ ps) page o h = at-under p ps page (omega (arith, o.0)) ∙ at_none (p.last + 1) ps page o.3 (omega (arith, o.0, o.1))
+unfolding piece_at
+at_none from [] page o h = refl
+at_none from (p ∷ ps) page o h = let e = at_none (p.last + 1) ps page o.3 (omega arith) in grind (arith, nat_tests)
+
+-- whether a piece has a page, and else it lies where it does behind that piece
+pub holds : (p : Piece) (page : ℕ) → Holds p page ⊎ (Holds p page → ⊥)
+holds p page = elim (order p.first page) [
+  | inr k ↦ inr (omega arith)
+  | inl k ↦ elim (order page p.last) [ inl l ↦ inl (k, l) | inr l ↦ inr (omega arith) ]
+]
+
+pub at-other : (p : Piece) (ps : List Piece) (page : ℕ) → (Holds p page → ⊥) → piece_at (p ∷ ps) page ≡ piece_at ps page
+unfolding piece_at
+at-other p ps page n = grind (arith, nat_tests)
+
+-- a piece that is there is the piece of its pages
+pub at_of : (from : ℕ) (q : Piece) (ps : List Piece) (page : ℕ) → IsOrdered from ps → IsIn q ps → q.first ≤ page → page ≤ q.last
+    → piece_at ps page ≡ Some q
+unfolding piece_at
+at_of from q [] page o m l h = absurd m
+at_of from q (p ∷ ps) page o m l h =
+    let r = in_le (p.last + 1) q ps o.3 in
+    let e = at_of (p.last + 1) q ps page o.3 in grind (arith, nat_tests)
 
 -- the first piece with room has the lowest start
 lowest_at : (floor from pages unit : ℕ) (xs : List Piece) (q : Piece) (ys : List Piece) (start : ℕ) → IsOrdered from (xs ++ q ∷ ys)
@@ -36,8 +47,7 @@ lowest_at : (floor from pages unit : ℕ) (xs : List Piece) (q : Piece) (ys : Li
 lowest_at floor from pages unit [] q ys start o pos n f u r =
     fits_here floor from q ys pages unit start o (free_state q.state f) u r pos
 lowest_at floor from pages unit (x ∷ xs) q ys start o pos n f u r =
-    let i : IsLowestAbove floor (xs ++ q ∷ ys) pages unit start =
-    lowest_at floor (x.last + 1) pages unit xs q ys start o.3 pos n.1 f u r in
+    let i = lowest_at floor (x.last + 1) pages unit xs q ys start o.3 pos n.1 f u r in
     record {
       fit = fits_cons from x (xs ++ q ∷ ys) pages unit start o pos i.fit;
       above = i.above;

@@ -1,26 +1,17 @@
 -- The first piece from a page on, where a free one stands in the place of others.
-use Rattle.std.proofs.Common.{◌≡◌, ◌≢◌, ℕ, ◌+◌, ◌<◌, ◌≤◌, ◌⊎◌, List, [], ◌∷◌, ◌++◌, Option, Some, None}
-use Rattle.std.proofs.Common.{refl, ap, sym, ◌∙◌, inl, inr, subst, arith}
+use Rattle.iova.proofs.Names.{◌≡◌, ◌≢◌, ℕ, ◌+◌, ◌<◌, ◌≤◌, ◌⊎◌, List, [], ◌∷◌, ◌++◌, Option, Some, None, IfSome, refl, ap, sym, ◌∙◌, inl}
+use Rattle.iova.proofs.Names.{inr, subst, arith, AllByRecursion, Ends, NUMBERS_END, Free, Piece, IsOrdered, first_or, pieces_from, CanList}
+use Rattle.iova.proofs.Names.{IsFirstOrNone, TakesPlace, with_freed, AreSorted, pages_as}
 use Rattle.std.proofs.lemmas.List.{append_assoc}
-use Rattle.std.specs.List.{AllByRecursion}
-use Rattle.iova.specs.declared.ends.Ends.{Ends}
-use Rattle.piece_tree.specs.declared.piece.TheConstants.{NUMBERS_END}
-use Rattle.piece_tree.specs.declared.piece.PageState.TheVariants.{Free}
-use Rattle.piece_tree.specs.declared.piece.Piece.{Piece}
-use Rattle.iova.specs.Pieces.{IsOrdered}
-use Rattle.piece_tree.specs.Search.{first_or, pieces_from}
-use Rattle.iova.specs.Stored.{CanList, IsFirstOrNone, TakesPlace, with_freed}
-use Rattle.piece_tree.specs.Pieces.{AreSorted}
-use Rattle.iova.specs.Pieces.{pages_as}
 use Rattle.iova.proofs.Pieces.{order}
 use Rattle.iova.proofs.parts.Parts.{first_from, some_page}
 use Rattle.iova.proofs.searches.Walked.{from-here, from-nil, from-past, from_before, from_behind, from_found, from_narrow}
 
 -- those that begin below the page are none of them
-from_all_below : (xs ys : List Piece) (page : ℕ) → AllByRecursion (λ p. p.first < page) xs
+from_all_below : (xs ys : List Piece) (last page : ℕ) → AllByRecursion (λ p. p.first ≤ last) xs → last < page
     → pieces_from page (xs ++ ys) ≡ pieces_from page ys
-from_all_below [] ys page h = refl
-from_all_below (x ∷ xs) ys page h = from-past x (xs ++ ys) page h.0 ∙ from_all_below xs ys page h.1
+from_all_below [] ys last page a h = refl
+from_all_below (x ∷ xs) ys last page a h = from-past x (xs ++ ys) page (omega (arith, a.0)) ∙ from_all_below xs ys last page a.1 h
 
 -- no piece before another one is among them, or the first that is ends below that one
 from_front : (from : ℕ) (xs : List Piece) (q : Piece) (ys : List Piece) (page : ℕ) → IsOrdered from (xs ++ q ∷ ys)
@@ -62,38 +53,30 @@ module _ (ends : Ends) (ps : List Piece) (o : IsOrdered 1 ps) (new : IsOrdered 1
   module _ (page : ℕ) where
     answers_under : page ≤ ends.first → ShowsFirst ends (first_of page ps) (first_of page (with_freed (Some ends) ps))
     answers_under h =
-        let a = ap (first_of page) old_parts ∙ from_before t.before t.first (t.rest ++ t.behind) page None (omega (arith, h, t.begins)) in
-        let b = ap (first_of page) t.now ∙ from_before t.before free t.behind page None h in
+        let a = from_before t.before t.first (t.rest ++ t.behind) page None (omega (arith, t.begins)) in
+        let b = from_before t.before free t.behind page None h in
         elim (from_front 1 t.before free t.behind page new_order) [
-          | inl e ↦ inl (t.first, a ∙ ap (λ l. first_or l (Some t.first)) e, t.begins, b ∙ ap (λ l. first_or l (Some free)) e)
-          | inr w ↦
-              let c = a ∙ ap (λ l. first_or l (Some t.first)) w.2 in
-              inr (
-                b ∙ ap (λ l. first_or l (Some free)) w.2 ∙ sym c,
-                (λ p e. let same : w.0 ≡ p = cc in
-                    subst (λ q. (q.first ≢ ends.first) × IsFirstOrNone ends (q.last + 1)) same
-                    ((λ s. omega (arith, s, w.3, w.4)), inl (omega (arith, w.4)))),
-              )
+          | inl e ↦ inl (t.first, cc (old_parts, a, e), t.begins, cc (t.now, b, e))
+          | inr w ↦ inr (
+            cc (old_parts, a, t.now, b, w.2),
+            (λ p e. let same : w.0 ≡ p = cc (old_parts, a, w.2) in
+                subst (λ q. (q.first ≢ ends.first) × IsFirstOrNone ends (q.last + 1)) same (omega arith, inl (omega (arith, w.4)))),
+          )
         ]
 
     answers_past : ends.last < page → ShowsFirst ends (first_of page ps) (first_of page (with_freed (Some ends) ps))
     answers_past h =
-        let wide : ends.first ≤ ends.last = some_page 1 t.before free t.behind new_order in
-        let a : pieces_from page (t.before ++ t.first ∷ (t.rest ++ t.behind)) ≡ pieces_from page t.behind =
-        from_behind 1 t.before t.first (t.rest ++ t.behind) page old_order (omega (arith, h, t.begins, wide))
-        ∙ from_all_below t.rest t.behind page (below t.rest t.within) in
-        let b : pieces_from page (t.before ++ free ∷ t.behind) ≡ pieces_from page t.behind =
-        from_behind 1 t.before free t.behind page new_order (omega (arith, h, wide)) in
-        inr (
-          ap (first_of page) t.now ∙ ap (λ l. first_or l None) (b ∙ sym a) ∙ sym (ap (first_of page) old_parts),
-          (λ p e. let w = from_found 1 ps page p o e in ((λ s. omega (arith, s, h, w.0, wide)), inr (omega (arith, h, w)))),
-        )
-      where
-        below : (xs : List Piece) → AllByRecursion (λ p. p.first ≤ ends.last) xs → AllByRecursion (λ p. p.first < page) xs
-        below [] a = tt
-        below (x ∷ xs) a = (omega (arith, h, a.0), below xs a.1)
+        let wide = some_page 1 t.before free t.behind new_order in
+        let a = from_behind 1 t.before t.first (t.rest ++ t.behind) page old_order (omega (arith, t.begins)) in
+        let c = from_all_below t.rest t.behind ends.last page t.within h in
+        let b = from_behind 1 t.before free t.behind page new_order (omega arith) in
+        inr (cc (old_parts, t.now, a, b, c), (λ p e. let w = from_found 1 ps page p o e in (omega (arith, w), inr (omega (arith, w)))))
 
 -- ---- the pieces of a space
+
+from_page : {ps : List Piece} {freed : Option Ends} {page : ℕ} → CanList ps freed page → (other : ℕ)
+    → IfSome freed (λ ends. IsFirstOrNone ends other) → CanList ps freed other
+from_page c other h = record { kept = c.kept; sorted = c.sorted; ordered = c.ordered; place = c.place; narrow = c.narrow; outside = h }
 
 module _ (ps : List Piece) (page : ℕ) (found : Option Piece) (is : found ≡ first_of page ps) where
   abbrev first_shown : Option Ends → Option Piece
@@ -127,25 +110,10 @@ module _ (ps : List Piece) (page : ℕ) (found : Option Piece) (is : found ≡ f
 
     pub shown_same : (freed : Option Ends) → CanList ps freed page → ((ends : Ends) → freed ≡ Some ends → p.first ≢ ends.first)
         → ShowsSame freed
-    shown_same None c h = record {
-      first = sym is ∙ e;
-      narrow = found_narrow c.sorted;
-      goes_on = record { kept = c.kept; sorted = c.sorted; ordered = c.ordered; place = tt; narrow = tt; outside = tt };
-    }
+    shown_same None c h = record { first = sym is ∙ e; narrow = found_narrow c.sorted; goes_on = from_page c (p.last + 1) tt }
     shown_same (Some ends) c h =
         let s : (first_shown (Some ends) ≡ Some p) × IsFirstOrNone ends (p.last + 1) = elim (found_answers ends c) [
           | inl a ↦ absurd (let f = a.1 in let same : a.0 ≡ p = cc in h ends refl (sym (ap (λ q. q.first) same) ∙ a.2))
           | inr a ↦ (a.0 ∙ e, (a.1 p e).1)
         ] in
-        record {
-          first = s.0;
-          narrow = found_narrow c.sorted;
-          goes_on = record {
-            kept = c.kept;
-            sorted = c.sorted;
-            ordered = c.ordered;
-            place = c.place;
-            narrow = c.narrow;
-            outside = s.1;
-          };
-        }
+        record { first = s.0; narrow = found_narrow c.sorted; goes_on = from_page c (p.last + 1) s.1 }

@@ -1,15 +1,8 @@
 -- Where a start that was found lies.
-use Rattle.std.proofs.Common.{◌≡◌, ℕ, ◌+◌, ◌≤◌, ◌∷◌, ◌++◌, List, refl, inl, sym, subst, arith}
-use Rattle.dmatypes.specs.World.{IsIn}
-use Rattle.piece_tree.specs.declared.piece.PageState.TheVariants.{Free}
-use Rattle.piece_tree.specs.declared.piece.Piece.{Piece}
-use Rattle.piece_tree.specs.declared.piece.TheConstants.{NUMBERS_END}
-use Rattle.piece_tree.specs.Pieces.{AreSorted}
-use Rattle.piece_tree.specs.Search.{IsFound}
-use Rattle.iova.specs.declared.ends.Ends.{Ends}
-use Rattle.iova.specs.Pieces.{pages_as}
+use Rattle.iova.proofs.Names.{◌≡◌, ℕ, ◌+◌, ◌≤◌, ◌∷◌, ◌++◌, List, refl, inl, sym, subst, arith, IsIn, Free, Piece, NUMBERS_END, AreSorted}
+use Rattle.iova.proofs.Names.{IsFound, Ends, pages_as}
 use Rattle.iova.proofs.Among.{in_append_right}
-use Rattle.iova.proofs.searches.Fit.{free_state}
+use Rattle.iova.proofs.Puts.{free_state}
 use Rattle.iova.proofs.Sorted.{sorted_in}
 
 -- a piece between others is one of them

@@ -1,17 +1,9 @@
 -- A piece added at an end of a tree.
-use Rattle.std.proofs.Common.{◌≡◌, ℕ, ◌+◌, ◌<◌, ◌≤◌, max, Bool, true, false, List, [], ◌∷◌, ◌++◌, length, Some, None, refl}
-use Rattle.std.proofs.Common.{ap, sym, ◌∙◌, inl, inr, subst, arith, append_assoc, length-append}
-use Rattle.std.proofs.lemmas.List.{append-nil}
-use Rattle.slab.specs.Slab.{Slab, get}
-use Rattle.piece_tree.specs.declared.piece.Piece.{Piece}
-use Rattle.piece_tree.specs.declared.piece.TheConstants.{MOST_PIECES}
-use Rattle.piece_tree.specs.declared.node.Node.{Node}
-use Rattle.piece_tree.specs.declared.node.Opened.{Opened}
-use Rattle.piece_tree.specs.declared.node.Top.{Top}
-use Rattle.piece_tree.specs.Graft.{Adds, IsTree, Makes, side_by_side}
-use Rattle.piece_tree.specs.Tree.{Look, Shape, Empty, items, height_of, root_of, top_of, fork, AreNear, Joins, KeepsCount, Opens}
-use Rattle.piece_tree.proofs.shapes.Beside.{none_empty}
-use Rattle.piece_tree.proofs.shapes.Forks.{fork-height, opened-by, opened-height}
+use Rattle.piece_tree.proofs.Names.{◌≡◌, ℕ, ◌+◌, ◌<◌, ◌≤◌, max, Bool, true, false, List, [], ◌∷◌, ◌++◌, length, Some, None, refl, ap, sym}
+use Rattle.piece_tree.proofs.Names.{◌∙◌, inl, inr, subst, arith, append_assoc, length-append, append-nil, Slab, get, Piece, MOST_PIECES}
+use Rattle.piece_tree.proofs.Names.{Node, Opened, Top, Adds, IsTree, Makes, side_by_side, Look, Shape, Empty, items, height_of, root_of}
+use Rattle.piece_tree.proofs.Names.{top_of, fork, AreNear, Joins, KeepsCount, Opens}
+use Rattle.piece_tree.proofs.shapes.Forks.{none_empty, fork-height, opened-by, opened-height}
 use Rattle.piece_tree.proofs.shapes.Halved.{halved-side, opened-half, opened-long}
 use Rattle.piece_tree.proofs.shapes.Tall.{contents_is, low_tree, order}
 
@@ -66,7 +58,7 @@ added true key p q n f s e = ap (λ l. items n ++ p ∷ l) e ∙ simp append_ass
 added false key p q n f s e = ap (λ l. l ++ p ∷ items n) e
 
 added_length : (b : Bool) (ps : List Piece) (p : Piece) → length (side_by_side b ps (p ∷ [])) ≡ length ps + 1
-added_length true ps p = omega (arith, length-append ps (p ∷ []))
+added_length true ps p = omega (arith, length-append {A = Piece})
 added_length false ps p = omega arith
 
 -- a tree, to that on whose far side it was added
@@ -75,22 +67,21 @@ module _ (nodes : Slab Node) {b : Bool} {top : Top} {key : ℕ} {t : Shape} {ope
     {all : Top} (j : Joins (get mid) (get new) b all key opened.piece o.near a.makes.shape) (c : KeepsCount mid new)
     (room : length (items t) < MOST_PIECES) where
   few : length (items o.near) + length (items a.makes.shape) < MOST_PIECES
-  few = omega (arith, room, opened-long nodes i o, ap length a.makes.all, added_length b (items o.far) p)
+  few = omega (arith, room, opened-long i o, ap length a.makes.all, added_length b (items o.far) p)
 
   made : Makes nodes new all t (side_by_side b (items t) (p ∷ []))
   made = subst (λ l. Makes nodes new all t l)
-      (added b key opened.piece p o.near o.far a.makes.shape a.makes.all
-      ∙ ap (λ x. side_by_side b (items x) (p ∷ [])) (sym o.is))
-      (halved-side nodes mid opened.near key far t o.near a.makes.shape (opened-half nodes i o a.makes) b new all opened.piece j c few)
+      (added b key opened.piece p o.near o.far a.makes.shape a.makes.all ∙ ap (λ x. side_by_side b (items x) (p ∷ [])) (sym o.is))
+      (halved-side (opened-half i o a.makes) b j c few)
 
   shown : height_of made.shape ≡ height_of j.shape
   shown = sym (ap (λ (v : Top). v.height) made.tree.is) ∙ ap (λ (v : Top). v.height) j.is
 
   high : height_of t ≡ 1 + max (height_of o.near) (height_of o.far)
-  high = opened-height (get nodes) b key opened t i.stands o
+  high = opened-height (get nodes) i.stands o
 
   near : AreNear o.near o.far
-  near = (opened-by (get nodes) b key opened t i.stands o).near
+  near = (opened-by (get nodes) i.stands o).near
 
   grown : height_of t ≤ height_of j.shape
   grown = elim (order (height_of a.makes.shape) (height_of o.near + 1)) [
@@ -101,8 +92,4 @@ module _ (nodes : Slab Node) {b : Bool} {top : Top} {key : ℕ} {t : Shape} {ope
   ]
 
   pub adds-far : Adds nodes new b all t (Some p)
-  adds-far = record {
-    makes = made;
-    tall = omega (arith, shown, grown);
-    short = omega (arith, shown, high, a.short, j.short);
-  }
+  adds-far = record { makes = made; tall = omega (arith, shown, grown); short = omega (arith, shown, high, a.short, j.short) }

@@ -1,11 +1,6 @@
 -- What lies beside a tree that became another: no key of it changed or came into the tree.
-use Rattle.std.proofs.Common.{◌≡◌, ◌≢◌, ℕ, ◌+◌, ◌<◌, ◌≤◌, List, Option, Some, None, IsSome, refl, ap, sym, subst, inl, inr, arith}
-use Rattle.slab.specs.Slab.{Slab, get}
-use Rattle.piece_tree.specs.declared.piece.Piece.{Piece}
-use Rattle.piece_tree.specs.declared.node.Node.{Node}
-use Rattle.piece_tree.specs.declared.node.Top.{Top}
-use Rattle.piece_tree.specs.Graft.{Makes}
-use Rattle.piece_tree.specs.Tree.{Look, Shape, Empty, Fork, root_of, one, uses, top_of, joint, Stands}
+use Rattle.piece_tree.proofs.Names.{◌≡◌, ◌≢◌, ℕ, ◌+◌, ◌<◌, ◌≤◌, List, Option, Some, None, IsSome, refl, ap, sym, ◌∙◌, inl, inr, arith}
+use Rattle.piece_tree.proofs.Names.{Slab, get, Piece, Node, Top, Makes, Look, Shape, Empty, Fork, root_of, one, uses, top_of, joint, Stands}
 use Rattle.piece_tree.proofs.shapes.Forks.{one-other, same_stands}
 use Rattle.piece_tree.proofs.shapes.Tall.{order}
 
@@ -34,6 +29,11 @@ used-there look t k s g = some (look k) refl
     some None e = absurd (omega (arith, unused look t k s (sym e)))
     some (Some n) e = refl
 
+-- a key that didn't change, and that the tree doesn't use which became another
+pub twice_apart : {mid new : Slab Node} {top : Top} {t : Shape} {pieces : List Piece} {was : Option Node}
+    (m : Makes mid new top t pieces) (k : ℕ) → uses t k ≡ 0 → get mid k ≡ was → IsSome was → (get new k ≡ was) × (uses m.shape k ≡ 0)
+twice_apart m k z same e = let x = m.apart k z (rw same e) in (x.0 ∙ same, x.1)
+
 -- keys that have a node, and that a tree doesn't use
 pub record IsApart (look : Look) (beside : ℕ → ℕ) (t : Shape) : Type 0 where
   pub there : (k : ℕ) → 0 < beside k → IsSome (look k)
@@ -50,7 +50,7 @@ module _ {old new : Slab Node} {top : Top} {t : Shape} {pieces : List Piece} {be
   -- they still are
   pub apart-still : IsApart (get new) beside m.shape
   apart-still = record {
-    there = λ k g. subst (λ o. IsSome o) (sym (apart-same k g)) (a.there k g);
+    there = λ k g. rw (apart-same k g) (a.there k g);
     once = λ k. elim (order (beside k) 0) [
       | inl x ↦ omega (arith, m.tree.once k)
       | inr g ↦ omega (arith, a.once k, (m.apart k (omega (arith, a.once k)) (a.there k g)).1)

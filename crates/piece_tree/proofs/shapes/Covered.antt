@@ -1,11 +1,7 @@
 -- Pieces in order, once a row of others was put over some of their pages.
-use Rattle.std.proofs.Common.{◌≡◌, ℕ, ◌+◌, ◌-◌, ◌<◌, ◌≤◌, List, [], ◌∷◌, ◌++◌, refl, ap, sym, ◌∙◌, inl, inr, subst, arith, append_assoc}
-use Rattle.std.proofs.lemmas.Bool.Decides.{nat_tests}
-use Rattle.std.specs.List.{AllByRecursion}
-use Rattle.piece_tree.specs.declared.piece.Piece.{Piece}
-use Rattle.piece_tree.specs.declared.piece.TheConstants.{NUMBERS_END}
-use Rattle.piece_tree.specs.Laid.{IsRow, part_above, part_below, rest_above, rest_below, with_row}
-use Rattle.piece_tree.specs.Pieces.{AreSorted, Holds}
+use Rattle.piece_tree.proofs.Names.{◌≡◌, ℕ, ◌+◌, ◌-◌, ◌<◌, ◌≤◌, List, [], ◌∷◌, ◌++◌, inl, inr, subst, arith}
+use Rattle.piece_tree.proofs.Names.{append_assoc, nat_tests, AllByRecursion, Piece, NUMBERS_END, IsRow, part_above, part_below, rest_above}
+use Rattle.piece_tree.proofs.Names.{rest_below, with_row, AreSorted, Holds}
 use Rattle.piece_tree.proofs.shapes.Laid.{above-at, above-back, above-front, below-at, below-back, below-front, row_rises}
 use Rattle.piece_tree.proofs.shapes.Sorted.{all_map, sorted_from}
 use Rattle.piece_tree.proofs.shapes.Tall.{order}
@@ -20,11 +16,8 @@ above-none page p h = grind (arith, nat_tests, h)
 
 -- a row over pages of one piece
 pub row-at : (from first last : ℕ) (row xs : List Piece) (p : Piece) (ys : List Piece) → AreSorted from (xs ++ p ∷ ys) → Holds p first
-    → Holds p last
-    → with_row first row last (xs ++ p ∷ ys) ≡ xs ++ (rest_below first p ++ row ++ rest_above last p) ++ ys
-row-at from first last row xs p ys s h k =
-    ap (λ l. l ++ (row ++ part_above last (xs ++ p ∷ ys))) (below-at from first xs p ys s h)
-    ∙ ap (λ l. (xs ++ rest_below first p) ++ (row ++ l)) (above-at from last xs p ys s k) ∙ simp append_assoc
+    → Holds p last → with_row first row last (xs ++ p ∷ ys) ≡ xs ++ (rest_below first p ++ row ++ rest_above last p) ++ ys
+row-at from first last row xs p ys s h k = rw (below-at from first xs p ys s h, above-at from last xs p ys s k) (simp append_assoc)
 
 -- a row over pages in the middle of a list
 pub row-within : (first last : ℕ) (row xs ms ys : List Piece) → AllByRecursion (λ q. q.last < first) xs
@@ -33,77 +26,46 @@ pub row-within : (first last : ℕ) (row xs ms ys : List Piece) → AllByRecursi
 row-within first last row xs ms ys a b s i =
     let low = all_map (λ q. q.last < first) (λ q. q.last < last) (λ q h. omega (arith, h, i)) xs a in
     let high = all_map (λ q. last < q.first) (λ q. first < q.first) (λ q h. omega (arith, h, i)) ys b in
-    ap (λ l. l ++ (row ++ part_above last (xs ++ (ms ++ ys))))
-    (below-back first xs (ms ++ ys) a ∙ ap (λ l. xs ++ l) (below-front first ms ys high s))
-    ∙ ap (λ l. (xs ++ part_below first ms) ++ (row ++ l))
-    (above-back last xs (ms ++ ys) low ∙ above-front last ms ys b s)
-    ∙ simp append_assoc
+    rw (below-back first xs (ms ++ ys) a, below-front first ms ys high s, above-back last xs (ms ++ ys) low, above-front last ms ys b s)
+    (simp append_assoc)
 
 -- ---- order
 
-below-step : (page : ℕ) (p : Piece) (ps : List Piece) → p.last < page → part_below page (p ∷ ps) ≡ p ∷ part_below page ps
-unfolding part_below
-below-step page p ps h = grind (arith, nat_tests, h)
-
-below-cut : (page : ℕ) (p : Piece) (ps : List Piece) → page ≤ p.last → p.first < page
-    → part_below page (p ∷ ps) ≡ record p { last = page - 1 } ∷ []
-unfolding part_below
-below-cut page p ps h k = grind (arith, nat_tests, h, k)
-
-below-stop : (page : ℕ) (p : Piece) (ps : List Piece) → page ≤ p.last → page ≤ p.first → part_below page (p ∷ ps) ≡ []
-unfolding part_below
-below-stop page p ps h k = grind (arith, nat_tests, h, k)
-
-below-nil : (page : ℕ) → part_below page [] ≡ []
-unfolding part_below
-below-nil page = refl
-
 pub below-sorted : (from page : ℕ) (ps zs : List Piece) → AreSorted from ps → from ≤ page → AreSorted page zs
     → AreSorted from (part_below page ps ++ zs)
-below-sorted from page [] zs s h z = subst (λ l. AreSorted from (l ++ zs)) (sym (below-nil page)) (sorted_from from page zs h z)
+unfolding part_below
+below-sorted from page [] zs s h z = sorted_from from page zs h z
 below-sorted from page (p ∷ ps) zs s h z = elim (order page p.last) [
-  | inr a ↦ subst (λ l. AreSorted from (l ++ zs)) (sym (below-step page p ps a))
-      (s.0, s.1, below-sorted (p.last + 1) page ps zs s.2 (omega (arith, a)) z)
+  | inr a ↦
+      let is : part_below page (p ∷ ps) ≡ p ∷ part_below page ps = grind (arith, nat_tests) in
+      rw is (s.0, s.1, below-sorted (p.last + 1) page ps zs s.2 (omega (arith, a)) z)
   | inl a ↦ elim (order page p.first) [
-    | inl b ↦ subst (λ l. AreSorted from (l ++ zs)) (sym (below-stop page p ps a b)) (sorted_from from page zs h z)
+    | inl b ↦ let is : part_below page (p ∷ ps) ≡ [] = grind (arith, nat_tests) in rw is (sorted_from from page zs h z)
     | inr b ↦
+        let is : part_below page (p ∷ ps) ≡ record p { last = page - 1 } ∷ [] = grind (arith, nat_tests) in
         let e : page ≡ page - 1 + 1 = omega (arith, b) in
-        subst (λ l. AreSorted from (l ++ zs)) (sym (below-cut page p ps a b))
-        (s.0, (omega (arith, b), omega (arith, a, s.1)), subst (λ n. AreSorted n zs) e z)
+        rw is (s.0, (omega (arith, b), omega (arith, a, s.1)), subst (λ n. AreSorted n zs) e z)
   ]
 ]
 
-pub above-step : (page : ℕ) (p : Piece) (ps : List Piece) → p.last ≤ page → part_above page (p ∷ ps) ≡ part_above page ps
-unfolding part_above
-above-step page p ps h = grind (arith, nat_tests, h)
-
-pub above-cut : (page : ℕ) (p : Piece) (ps : List Piece) → page < p.last → p.first ≤ page
-    → part_above page (p ∷ ps) ≡ record p { first = page + 1 } ∷ ps
-unfolding part_above
-above-cut page p ps h k = grind (arith, nat_tests, h, k)
-
-above-stop : (page : ℕ) (p : Piece) (ps : List Piece) → page < p.last → page < p.first → part_above page (p ∷ ps) ≡ p ∷ ps
-unfolding part_above
-above-stop page p ps h k = grind (arith, nat_tests, h, k)
-
-above-nil : (page : ℕ) → part_above page [] ≡ []
-unfolding part_above
-above-nil page = refl
-
 pub above-sorted : (from page : ℕ) (ps : List Piece) → AreSorted from ps → AreSorted (page + 1) (part_above page ps)
-above-sorted from page [] s = subst (λ l. AreSorted (page + 1) l) (sym (above-nil page)) tt
+unfolding part_above
+above-sorted from page [] s = tt
 above-sorted from page (p ∷ ps) s = elim (order p.last page) [
-  | inl a ↦ subst (λ l. AreSorted (page + 1) l) (sym (above-step page p ps a)) (above-sorted (p.last + 1) page ps s.2)
+  | inl a ↦
+      let is : part_above page (p ∷ ps) ≡ part_above page ps = grind (arith, nat_tests) in
+      rw is (above-sorted (p.last + 1) page ps s.2)
   | inr a ↦ elim (order p.first page) [
-    | inl b ↦ subst (λ l. AreSorted (page + 1) l) (sym (above-cut page p ps a b))
-        (omega arith, (omega (arith, a), omega (arith, s.1)), s.2)
-    | inr b ↦ subst (λ l. AreSorted (page + 1) l) (sym (above-stop page p ps a b)) (omega (arith, b), s.1, s.2)
+    | inl b ↦
+        let is : part_above page (p ∷ ps) ≡ record p { first = page + 1 } ∷ ps = grind (arith, nat_tests) in
+        rw is (omega arith, (omega (arith, a), omega (arith, s.1)), s.2)
+    | inr b ↦ let is : part_above page (p ∷ ps) ≡ p ∷ ps = grind (arith, nat_tests) in rw is (omega (arith, b), s.1, s.2)
   ]
 ]
 
 row-sorted : (from : ℕ) (row : List Piece) (end : ℕ) (zs : List Piece) → IsRow from row end → end ≤ NUMBERS_END → AreSorted end zs
     → AreSorted from (row ++ zs)
-row-sorted from [] end zs r h z = subst (λ n. AreSorted n zs) (sym r) z
+row-sorted from [] end zs r h z = rw r z
 row-sorted from (p ∷ ps) end zs r h z =
     let a = row_rises (p.last + 1) ps end r.2 in
     (omega (arith, r.0), (r.1, omega (arith, a, h)), row-sorted (p.last + 1) ps end zs r.2 h z)

@@ -1,50 +1,38 @@
 -- A new key between two trees, and the heights of trees that are built so.
-use Rattle.std.proofs.Common.{◌≡◌, ◌≢◌, ℕ, zero, suc, ◌+◌, ◌^◌, ◌<◌, ◌≤◌, max, ◌∷◌, ◌++◌, length, Some, None, IsSome}
-use Rattle.std.proofs.Common.{refl, ap, sym, ◌∙◌, inl, inr, subst, arith, length-append}
-use Rattle.std.proofs.Math.Pow.{pow_mono}
-use Rattle.std.proofs.Math.Nat.{two-pow-succ}
-use Rattle.std.proofs.lemmas.Bool.Decides.{nat_tests}
-use Rattle.slab.specs.Slab.{Slab, Updates, get, slab_len}
-use Rattle.piece_tree.specs.declared.node.Node.{Node}
-use Rattle.piece_tree.specs.declared.node.Top.{Top}
-use Rattle.piece_tree.specs.declared.piece.Piece.{Piece}
-use Rattle.piece_tree.specs.declared.piece.TheConstants.{MOST_PIECES}
-use Rattle.piece_tree.specs.Graft.{IsLeastHeight, Makes, Parted}
-use Rattle.piece_tree.specs.Pieces.{IsPiece}
-use Rattle.piece_tree.specs.Tree.{Shape, Empty, Fork, AreNear, items, joint, one, top_of, tree_at, uses}
+use Rattle.piece_tree.proofs.Names.{◌≡◌, ◌≢◌, ℕ, zero, suc, ◌+◌, ◌^◌, ◌<◌, ◌≤◌, max, ◌∷◌, ◌++◌, length, Some, None, IsSome, refl, ap, sym}
+use Rattle.piece_tree.proofs.Names.{◌∙◌, inl, inr, subst, arith, length-append, pow_mono, two-pow-succ, Slab, Updates, get}
+use Rattle.piece_tree.proofs.Names.{slab_len, Node, Top, Piece, MOST_PIECES, IsLeastHeight, Makes, Parted, IsPiece, Shape, Empty, Fork}
+use Rattle.piece_tree.proofs.Names.{AreNear, items, joint, one, top_of, tree_at, uses}
 use Rattle.piece_tree.proofs.shapes.Apart.{unused, used-there}
-use Rattle.piece_tree.proofs.shapes.Forks.{one-other, one-same, same_stands}
+use Rattle.piece_tree.proofs.shapes.Forks.{one-other, one-same, same_key, same_stands}
 use Rattle.piece_tree.proofs.shapes.Tall.{order}
 
 module _ {was mid : Slab Node} {near far : Top} {n f : Shape} (h : Parted was mid near far Empty n f) (key : ℕ)
     (none : get mid key ≡ None) where
-  one-key : (k : ℕ) → 0 < one key k → k ≡ key
-  one-key k g = grind (arith, nat_tests)
-
   not_used : (k : ℕ) → 0 < one key k → uses n k + uses f k ≡ 0
   not_used k g =
       let a = unused (get mid) n key h.near_tree.stands none in
       let b = unused (get mid) f key h.far_tree.stands none in
-      subst (λ x. uses n x + uses f x ≡ 0) (sym (one-key k g)) (omega (arith, a, b))
+      rw (same_key key k g) (omega (arith, a, b))
 
   once : (k : ℕ) → one key k + uses n k + uses f k ≤ 1
   once k = elim (order (one key k) 0) [
     | inl x ↦ omega (arith, h.once k)
-    | inr x ↦ omega (arith, not_used k x, ap (one key) (one-key k x), one-same key)
+    | inr x ↦ omega (arith, not_used k x, ap (one key) (same_key key k x), one-same key)
   ]
 
   other : (k : ℕ) → IsSome (get mid k) → k ≢ key
   other k there x = let y : get mid k ≡ get mid key = ap (get mid) x in absurd (cc)
 
-  pub crown-makes : (new : Slab Node) (p : Piece) → IsPiece p → AreNear n f → length (items n) + length (items f) < MOST_PIECES
+  pub crown-makes : {new : Slab Node} {p : Piece} → IsPiece p → AreNear n f → length (items n) + length (items f) < MOST_PIECES
       → Updates mid new key (Some (joint p near far)) → slab_len new ≡ slab_len mid + 1 → new.capacity ≡ mid.capacity
       → Makes was new (tree_at key (joint p near far)) Empty (items n ++ p ∷ items f)
-  crown-makes new p i close few u len capacity = record {
+  crown-makes {new} {p} i close few u len capacity = record {
     shape = Fork key p n f;
     tree = record {
-      is = ap (λ v. tree_at key (joint p v far)) h.near_tree.is ∙ ap (λ v. tree_at key (joint p (top_of n) v)) h.far_tree.is;
+      is = rw (h.near_tree.is, h.far_tree.is) refl;
       stands = (
-        u.changed ∙ ap (λ v. Some (joint p v far)) h.near_tree.is ∙ ap (λ v. Some (joint p (top_of n) v)) h.far_tree.is,
+        rw (h.near_tree.is, h.far_tree.is) at u.changed,
         i,
         close,
         same_stands (get mid) (get new) n h.near_tree.stands
@@ -53,14 +41,14 @@ module _ {was mid : Slab Node} {near far : Top} {n f : Shape} (h : Parted was mi
             (λ k g. u.others k (other k (used-there (get mid) f k h.far_tree.stands g))),
       );
       once = once;
-      few = omega (arith, few, length-append (items n) (p ∷ items f));
+      few = omega (arith, few, length-append {A = Piece});
     };
     all = refl;
     apart = λ k z there.
         let x = h.apart k z there in
-        let new_one = other k (subst (λ o. IsSome o) (sym x.0) there) in
+        let new_one = other k (rw x.0 there) in
         (u.others k new_one ∙ x.0, omega (arith, x.1, one-other key k new_one));
-    len = omega (arith, h.len, len, length-append (items n) (p ∷ items f));
+    len = omega (arith, h.len, len, length-append {A = Piece});
     capacity = capacity ∙ h.capacity;
   }
 

@@ -1,11 +1,7 @@
 -- A tree hung where the end of a higher one is nearly as low: what lies below the higher one's root becomes one with it, and then the root
 -- and that.
-use Rattle.std.proofs.Common.{◌≡◌, ℕ, ◌+◌, ◌≤◌, max, Bool, true, false, ◌∷◌, ◌++◌, IsSome, ap, sym, ◌∙◌, inl, inr, subst, arith}
-use Rattle.piece_tree.specs.declared.piece.Piece.{Piece}
-use Rattle.piece_tree.specs.declared.node.Opened.{Opened}
-use Rattle.piece_tree.specs.declared.node.Top.{Top}
-use Rattle.piece_tree.specs.Tree.{Look, Shape, items, height_of, one, uses, fork}
-use Rattle.piece_tree.specs.Tree.{Opens, AreParts, Joins}
+use Rattle.piece_tree.proofs.Names.{◌≡◌, ℕ, ◌+◌, ◌≤◌, max, Bool, true, false, ◌∷◌, ◌++◌, IsSome, ap, sym, ◌∙◌, inl, inr, subst, arith}
+use Rattle.piece_tree.proofs.Names.{Piece, Opened, Top, Look, Shape, items, height_of, one, uses, fork, Opens, AreParts, Joins}
 use Rattle.piece_tree.proofs.shapes.Forks.{one-same, same_stands, fork-height}
 use Rattle.piece_tree.proofs.shapes.Forks.{StandsBy, opened-by, opened-there, opened-uses, opened-height}
 use Rattle.piece_tree.proofs.shapes.Tall.{order}
@@ -19,13 +15,13 @@ far_items false key p n s t e = ap (λ ps. ps ++ p ∷ items n) e
 module _ {old : Look} {b : Bool} {near far : Top} {key top : ℕ} {outer : Opened} {n f : Shape}
     (a : AreParts old near key far n f) (tall : height_of f + 2 ≤ height_of n) (o : Opens b top outer n) where
   by : StandsBy old b top outer.piece o.near o.far
-  by = opened-by old b top outer n a.near_stands o
+  by = opened-by old a.near_stands o
 
   uses-n : (k : ℕ) → uses n k ≡ one top k + uses o.near k + uses o.far k
-  uses-n k = opened-uses old b top outer n a.near_stands o k
+  uses-n k = opened-uses old a.near_stands o k
 
   high-n : height_of n ≡ 1 + max (height_of o.near) (height_of o.far)
-  high-n = opened-height old b top outer n a.near_stands o
+  high-n = opened-height old a.near_stands o
 
   pub graft-below : AreParts old outer.far key far o.far f × (height_of f ≤ height_of o.far + 1)
   graft-below = (
@@ -51,7 +47,7 @@ module _ {old : Look} {b : Bool} {near far : Top} {key top : ℕ} {outer : Opene
         near_stands = same_stands old mid o.near by.one (λ k g. j.others k (omega (arith, a.once k, uses-n k)));
         far_stands = j.stands;
         here = subst (λ x. IsSome x) (sym (j.others top (omega (arith, a.once top, uses-n top, one-same top))))
-            (opened-there old b top outer n a.near_stands o);
+            (opened-there old a.near_stands o);
         once = λ k. omega (arith, a.once k, uses-n k, j.keys k);
         low = (omega (arith, a.low, high-n), omega (arith, a.low, tall, high-n, by.near, j.short));
       },

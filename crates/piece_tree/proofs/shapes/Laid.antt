@@ -1,91 +1,47 @@
 -- Pieces in order, at a page: what they have below it and above it, and on which side of a piece the page lies.
-use Rattle.std.proofs.Common.{◌≡◌, ℕ, ◌+◌, ◌<◌, ◌≤◌, Bool, true, false, List, [], ◌∷◌, ◌++◌, length, refl}
-use Rattle.std.proofs.Common.{inl, inr, arith}
-use Rattle.std.proofs.lemmas.Bool.Decides.{nat_tests}
-use Rattle.std.specs.List.{AllByRecursion}
-use Rattle.piece_tree.specs.declared.piece.Piece.{Piece}
-use Rattle.piece_tree.specs.declared.piece.TheConstants.{NUMBERS_END}
-use Rattle.piece_tree.specs.Laid.{IsRow, part_above, part_below, part_beside, rest_above, rest_below}
-use Rattle.piece_tree.specs.Pieces.{AreSorted, Holds, IsPiece}
-use Rattle.piece_tree.specs.Tree.{Shape, fork, items}
-use Rattle.piece_tree.proofs.shapes.Sorted.{sorted_at, sorted_front}
-use Rattle.piece_tree.proofs.shapes.Tall.{order}
+use Rattle.piece_tree.proofs.Names.{◌≡◌, ℕ, ◌+◌, ◌<◌, ◌≤◌, Bool, true, false, List, [], ◌∷◌, ◌++◌, length, refl, arith, nat_tests}
+use Rattle.piece_tree.proofs.Names.{AllByRecursion, Piece, NUMBERS_END, IsRow, part_above, part_below, part_beside, rest_above, rest_below}
+use Rattle.piece_tree.proofs.Names.{AreSorted, Holds, IsPiece, Shape, fork, items}
+use Rattle.piece_tree.proofs.shapes.Sorted.{ends_below, sorted_at, sorted_front}
 
 -- ---- what lies below a page, and above one
 
-pub below-at : (from page : ℕ) (xs : List Piece) (p : Piece) (ys : List Piece) → AreSorted from (xs ++ p ∷ ys) → Holds p page
-    → part_below page (xs ++ p ∷ ys) ≡ xs ++ rest_below page p
-unfolding part_below
-below-at from page [] p ys s h = grind (arith, nat_tests, h.1)
-below-at from page (x ∷ xs) p ys s h =
-    let a = sorted_at (x.last + 1) xs p ys s.2 in
-    let b : x.last < page = omega (arith, a.0, h.0) in
-    grind (arith, nat_tests, below-at (x.last + 1) page xs p ys s.2 h, b)
-
--- pieces that lie above it are above it whole
+-- pieces that lie above it are above it whole, and those that end below it below it
 pub above-all : (from page : ℕ) (ps : List Piece) → AreSorted from ps → page < from → part_above page ps ≡ ps
 unfolding part_above
 above-all from page [] s h = refl
-above-all from page (p ∷ ps) s h =
-    let a : page < p.first = omega (arith, s.0) in
-    let b : page < p.last = omega (arith, s.1) in
-    grind (arith, nat_tests, a, b)
+above-all from page (p ∷ ps) s h = grind (arith, nat_tests, s.0, s.1)
 
-above-here : (page : ℕ) (p : Piece) (ys : List Piece) → IsPiece p → AreSorted (p.last + 1) ys → Holds p page
-    → part_above page (p ∷ ys) ≡ rest_above page p ++ ys
-unfolding part_above
-above-here page p ys i s h =
-    elim (order p.last page) [
-      | inl a ↦
-          let b = above-all (p.last + 1) page ys s (omega (arith, h.1)) in
-          grind (arith, nat_tests, a, b)
-      | inr a ↦ grind (arith, nat_tests, a, h.0)
-    ]
-
-pub above-at : (from page : ℕ) (xs : List Piece) (p : Piece) (ys : List Piece) → AreSorted from (xs ++ p ∷ ys) → Holds p page
-    → part_above page (xs ++ p ∷ ys) ≡ rest_above page p ++ ys
-unfolding part_above
-above-at from page [] p ys s h = above-here page p ys s.1 s.2 h
-above-at from page (x ∷ xs) p ys s h =
-    let a = sorted_at (x.last + 1) xs p ys s.2 in
-    let b : x.last < page = omega (arith, a.0, h.0) in
-    grind (arith, nat_tests, above-at (x.last + 1) page xs p ys s.2 h, b)
-
--- ---- about a piece that reaches to the page
-
--- pieces that end below it are below it whole
 pub below-all : (page : ℕ) (ps : List Piece) → AllByRecursion (λ q. q.last < page) ps → part_below page ps ≡ ps
 unfolding part_below
 below-all page [] a = refl
 below-all page (p ∷ ps) a = grind (arith, nat_tests, below-all page ps a.1, a.0)
 
+-- about a piece that reaches to the page
 pub below-mid : (from page : ℕ) (xs : List Piece) (p : Piece) (ys : List Piece) → AreSorted from (xs ++ p ∷ ys) → page ≤ p.last
     → part_below page (xs ++ p ∷ ys) ≡ part_below page xs ++ rest_below page p
 unfolding part_below
 below-mid from page [] p ys s h = grind (arith, nat_tests, h)
 below-mid from page (x ∷ xs) p ys s h =
-    let a = sorted_at (x.last + 1) xs p ys s.2 in
-    elim (order page x.last) [
-      | inl b ↦
-          let c : page ≤ p.first = omega (arith, a.0, b) in
-          grind (arith, nat_tests, b, c)
-      | inr b ↦ grind (arith, nat_tests, below-mid (x.last + 1) page xs p ys s.2 h, b)
-    ]
+    let a = sorted_at (x.last + 1) xs p ys s.2 in grind (arith, nat_tests, below-mid (x.last + 1) page xs p ys s.2 h, a.0)
 
 pub above-mid : (from page : ℕ) (xs : List Piece) (p : Piece) (ys : List Piece) → AreSorted from (xs ++ p ∷ ys) → p.first ≤ page
     → part_above page (xs ++ p ∷ ys) ≡ rest_above page p ++ part_above page ys
 unfolding part_above
-above-mid from page [] p ys s h =
-    elim (order p.last page) [
-      | inl a ↦ grind (arith, nat_tests, a)
-      | inr a ↦
-          let b = above-all (p.last + 1) page ys s.2 (omega (arith, a)) in
-          grind (arith, nat_tests, a, b, h)
-    ]
+above-mid from page [] p ys s h = grind (arith, nat_tests, above-all (p.last + 1) page ys s.2, h)
 above-mid from page (x ∷ xs) p ys s h =
-    let a = sorted_at (x.last + 1) xs p ys s.2 in
-    let b : x.last ≤ page = omega (arith, a.0, h) in
-    grind (arith, nat_tests, above-mid (x.last + 1) page xs p ys s.2 h, b)
+    let a = sorted_at (x.last + 1) xs p ys s.2 in grind (arith, nat_tests, above-mid (x.last + 1) page xs p ys s.2 h, a.0)
+
+-- about one that has it
+pub below-at : (from page : ℕ) (xs : List Piece) (p : Piece) (ys : List Piece) → AreSorted from (xs ++ p ∷ ys) → Holds p page
+    → part_below page (xs ++ p ∷ ys) ≡ xs ++ rest_below page p
+below-at from page xs p ys s h = cc (below-mid from page xs p ys s h.1, below-all page xs (ends_below from page xs p ys s h.0))
+
+pub above-at : (from page : ℕ) (xs : List Piece) (p : Piece) (ys : List Piece) → AreSorted from (xs ++ p ∷ ys) → Holds p page
+    → part_above page (xs ++ p ∷ ys) ≡ rest_above page p ++ ys
+above-at from page xs p ys s h =
+    let a = sorted_at from xs p ys s in
+    cc (above-mid from page xs p ys s h.0, above-all (p.last + 1) page ys a.2 (omega (arith, h.1)))
 
 -- ---- about pieces on both sides of the page
 
@@ -94,19 +50,14 @@ pub below-front : (page : ℕ) (xs ys : List Piece) → AllByRecursion (λ q. pa
     → part_below page (xs ++ ys) ≡ part_below page xs
 unfolding part_below
 below-front page [] [] a s = refl
-below-front page [] (y ∷ ys) a s =
-    let b : page ≤ y.first = omega (arith, a.0) in
-    let c : page ≤ y.last = omega (arith, a.0, s.1) in
-    grind (arith, nat_tests, b, c)
+below-front page [] (y ∷ ys) a s = grind (arith, nat_tests, a.0, s.1)
 below-front page (x ∷ xs) ys a s = grind (arith, nat_tests, below-front page xs ys a s)
 
 -- nor are those that end below it
 pub above-back : (page : ℕ) (xs ys : List Piece) → AllByRecursion (λ q. q.last < page) xs → part_above page (xs ++ ys) ≡ part_above page ys
 unfolding part_above
 above-back page [] ys a = refl
-above-back page (x ∷ xs) ys a =
-    let b : x.last ≤ page = omega (arith, a.0) in
-    grind (arith, nat_tests, above-back page xs ys a.1, b)
+above-back page (x ∷ xs) ys a = grind (arith, nat_tests, above-back page xs ys a.1, a.0)
 
 pub below-back : (page : ℕ) (xs ys : List Piece) → AllByRecursion (λ q. q.last < page) xs
     → part_below page (xs ++ ys) ≡ xs ++ part_below page ys
@@ -118,10 +69,7 @@ pub above-front : (page : ℕ) (xs ys : List Piece) → AllByRecursion (λ q. pa
     → part_above page (xs ++ ys) ≡ part_above page xs ++ ys
 unfolding part_above
 above-front page [] [] a s = refl
-above-front page [] (y ∷ ys) a s =
-    let b : page < y.first = a.0 in
-    let c : page < y.last = omega (arith, a.0, s.1) in
-    grind (arith, nat_tests, b, c)
+above-front page [] (y ∷ ys) a s = grind (arith, nat_tests, a.0, s.1)
 above-front page (x ∷ xs) ys a s = grind (arith, nat_tests, above-front page xs ys a s)
 
 -- ---- how many there are
@@ -129,24 +77,12 @@ above-front page (x ∷ xs) ys a s = grind (arith, nat_tests, above-front page x
 below-short : (page : ℕ) (ps : List Piece) → length (part_below page ps) ≤ length ps
 unfolding part_below
 below-short page [] = omega arith
-below-short page (p ∷ ps) = let r = below-short page ps in elim (order page p.last) [
-  | inl a ↦ elim (order page p.first) [
-    | inl b ↦ grind (arith, nat_tests, a, b)
-    | inr b ↦ grind (arith, nat_tests, a, b)
-  ]
-  | inr a ↦ grind (arith, nat_tests, a, r)
-]
+below-short page (p ∷ ps) = let r = below-short page ps in grind (arith, nat_tests)
 
 pub above-short : (page : ℕ) (ps : List Piece) → length (part_above page ps) ≤ length ps
 unfolding part_above
 above-short page [] = omega arith
-above-short page (p ∷ ps) = let r = above-short page ps in elim (order p.last page) [
-  | inl a ↦ grind (arith, nat_tests, a, r)
-  | inr a ↦ elim (order p.first page) [
-    | inl b ↦ grind (arith, nat_tests, a, b)
-    | inr b ↦ grind (arith, nat_tests, a, b)
-  ]
-]
+above-short page (p ∷ ps) = let r = above-short page ps in grind (arith, nat_tests)
 
 pub part-nil : (b : Bool) (page : ℕ) → part_beside b page [] ≡ []
 unfolding part_below part_above

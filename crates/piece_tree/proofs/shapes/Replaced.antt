@@ -1,15 +1,8 @@
 -- A row put over pieces of a tree, of which one is at its root: what stays before it, and behind it.
-use Rattle.std.proofs.Common.{◌≡◌, ℕ, ◌+◌, ◌<◌, ◌≤◌, true, false, List, [], ◌∷◌, ◌++◌, length, refl, ap, sym, ◌∙◌, subst, arith}
-use Rattle.std.specs.List.{AllByRecursion}
-use Rattle.slab.specs.Slab.{Slab, get}
-use Rattle.piece_tree.specs.declared.piece.Piece.{Piece}
-use Rattle.piece_tree.specs.declared.node.Node.{Node}
-use Rattle.piece_tree.specs.declared.node.Opened.{Opened}
-use Rattle.piece_tree.specs.declared.node.Top.{Top}
-use Rattle.piece_tree.specs.Graft.{CanKeep, CanReplace, Halved, IsTree, Makes}
-use Rattle.piece_tree.specs.Laid.{IsRow, part_above, part_below, rest_above, rest_below, with_row}
-use Rattle.piece_tree.specs.Pieces.{AreSorted, HasAny, IsPiece}
-use Rattle.piece_tree.specs.Tree.{Shape, items, top_of, Opens}
+use Rattle.piece_tree.proofs.Names.{◌≡◌, ℕ, ◌+◌, ◌<◌, ◌≤◌, true, false, List, [], ◌∷◌, ◌++◌, length, refl, arith}
+use Rattle.piece_tree.proofs.Names.{AllByRecursion, Slab, get, Piece, Node, Opened, Top, CanKeep, CanReplace, Halved, IsTree, Makes, IsRow}
+use Rattle.piece_tree.proofs.Names.{part_above, part_below, rest_above, rest_below, with_row, AreSorted, HasAny, IsPiece, Shape, items}
+use Rattle.piece_tree.proofs.Names.{top_of, Opens}
 use Rattle.piece_tree.proofs.shapes.Flanked.{Cleared}
 use Rattle.piece_tree.proofs.shapes.Forks.{opened-by}
 use Rattle.piece_tree.proofs.shapes.Halved.{far-tree, halved-far, halved-near, halved-open, near-tree, opened-long}
@@ -21,10 +14,10 @@ module _ {nodes : Slab Node} {key first last : ℕ} {row : List Piece} {t : Shap
     {opened : Opened}
     (o : Opens true key opened t) where
   ordered : AreSorted can.from (items o.near ++ opened.piece ∷ items o.far)
-  ordered = subst (λ l. AreSorted can.from l) (ap items o.is) can.sorted
+  ordered = rw o.is at can.sorted
 
-  at : (from : ℕ) × IsPiece opened.piece × AreSorted (opened.piece.last + 1) (items o.far)
-  at = let a = sorted_at can.from (items o.near) opened.piece (items o.far) ordered in (can.from, a.1, a.2)
+  at : (can.from ≤ opened.piece.first) × IsPiece opened.piece × AreSorted (opened.piece.last + 1) (items o.far)
+  at = sorted_at can.from (items o.near) opened.piece (items o.far) ordered
 
   pub replace-piece : IsPiece opened.piece
   replace-piece = at.1
@@ -33,17 +26,17 @@ module _ {nodes : Slab Node} {key first last : ℕ} {row : List Piece} {t : Shap
   tree = record { is = refl; stands = can.below.1; once = can.once; few = can.few }
 
   pub replace-any : HasAny opened.piece first last
-  replace-any = can.root _ (opened-by (get nodes) true key opened t can.below.1 o).here
+  replace-any = can.root _ (opened-by (get nodes) can.below.1 o).here
 
   halved : Halved nodes nodes opened.near key opened.far t o.near o.far
-  halved = halved-open nodes tree o
+  halved = halved-open tree o
 
   long : length (items t) ≡ length (items o.near) + 1 + length (items o.far)
-  long = opened-long nodes tree o
+  long = opened-long tree o
 
   pub replace-near : CanKeep (get nodes) true opened.near opened.piece first o.near
   replace-near = record {
-    tree = near-tree nodes nodes opened.near key opened.far t o.near o.far halved (omega (arith, can.few, long));
+    tree = near-tree halved (omega (arith, can.few, long));
     from = can.from;
     sorted = sorted_front can.from (items o.near) (opened.piece ∷ items o.far) ordered;
     all = λ h. below-all first (items o.near) (ends_below can.from first (items o.near) opened.piece (items o.far) ordered h);
@@ -51,11 +44,11 @@ module _ {nodes : Slab Node} {key first last : ℕ} {row : List Piece} {t : Shap
 
   module _ {mid : Slab Node} {near : Top} (m : Makes nodes mid near o.near (part_below first (items o.near))) where
     half : Halved nodes mid near key opened.far t m.shape o.far
-    half = halved-near nodes nodes opened.near key opened.far t o.near o.far halved mid near _ m
+    half = halved-near halved m
 
     pub replace-far : CanKeep (get mid) false opened.far opened.piece last o.far
     replace-far = record {
-      tree = far-tree nodes mid near key opened.far t m.shape o.far half (omega (arith, can.few, long));
+      tree = far-tree half (omega (arith, can.few, long));
       from = opened.piece.last + 1;
       sorted = at.2;
       all = λ h. above-all (opened.piece.last + 1) last (items o.far) at.2 (omega (arith, h));
@@ -67,14 +60,14 @@ module _ {nodes : Slab Node} {key first last : ℕ} {row : List Piece} {t : Shap
     replace-cleared {next} {far} w = record {
       n = m.shape;
       f = w.shape;
-      halved = halved-far nodes mid near key opened.far t m.shape o.far half next far _ w;
-      view = ap (λ x. with_row first row last (items x)) o.is
-          ∙ ap (λ l. l ++ (row ++ part_above last (items o.near ++ opened.piece ∷ items o.far)))
-          (below-mid can.from first (items o.near) opened.piece (items o.far) ordered replace-any.1
-          ∙ ap (λ l. l ++ rest_below first opened.piece) (sym m.all))
-          ∙ ap (λ l. (items m.shape ++ rest_below first opened.piece) ++ (row ++ l))
-          (above-mid can.from last (items o.near) opened.piece (items o.far) ordered replace-any.0
-          ∙ ap (λ l. rest_above last opened.piece ++ l) (sym w.all));
+      halved = halved-far half w;
+      view = rw (
+        o.is,
+        below-mid can.from first (items o.near) opened.piece (items o.far) ordered replace-any.1,
+        above-mid can.from last (items o.near) opened.piece (items o.far) ordered replace-any.0,
+        m.all,
+        w.all,
+      ) refl;
     }
 
 -- ---- the row
@@ -93,23 +86,17 @@ module _ {nodes : Slab Node} {key first last : ℕ} {row : List Piece} {t : Shap
   -- the ends of the row are the pages' own
   pub replace-as : (row' : List Piece) (from end : ℕ) → row ≡ row' → from ≡ first → end ≡ last
       → CanReplace nodes key from row' end t × (with_row from row' end (items t) ≡ with_row first row last (items t))
-  replace-as row' from end e f g = (
-    subst (λ n. CanReplace nodes key n row' end t) (sym f)
-        (subst (λ n. CanReplace nodes key first row' n t) (sym g) (subst (λ l. CanReplace nodes key first l last t) e can)),
-    ap (λ n. with_row n row' end (items t)) f ∙ ap (λ n. with_row first row' n (items t)) g
-        ∙ ap (λ l. with_row first l last (items t)) (sym e),
-  )
+  replace-as row' from end e f g = (rw (f, g, ← e) can, rw (f, g, ← e) refl)
 
-  pub replace-one : (p : Piece) (rest : List Piece) → row ≡ p ∷ rest → length rest ≡ 0
-      → CanReplace nodes key p.first (p ∷ []) p.last t
+  pub replace-one : {p : Piece} {rest : List Piece} → row ≡ p ∷ rest → length rest ≡ 0 → CanReplace nodes key p.first (p ∷ []) p.last t
       × (with_row p.first (p ∷ []) p.last (items t) ≡ with_row first row last (items t))
-  replace-one p rest e none =
+  replace-one {p} {rest} e none =
       let r = row-one first last row p rest e none can.is_row in
       replace-as (p ∷ []) p.first p.last r.2 r.0 r.1
 
-  pub replace-ends : (p : Piece) (rest others : List Piece) (q : Piece) → row ≡ p ∷ rest → rest ≡ others ++ q ∷ []
+  pub replace-ends : {p : Piece} {rest : List Piece} (others : List Piece) (q : Piece) → row ≡ p ∷ rest → rest ≡ others ++ q ∷ []
       → CanReplace nodes key p.first (p ∷ others ++ q ∷ []) q.last t
       × (with_row p.first (p ∷ others ++ q ∷ []) q.last (items t) ≡ with_row first row last (items t))
-  replace-ends p rest others q e f =
+  replace-ends {p} {rest} others q e f =
       let r = row-ends first last row p rest others q e f can.is_row in
       replace-as (p ∷ others ++ q ∷ []) p.first q.last r.2 r.0 r.1

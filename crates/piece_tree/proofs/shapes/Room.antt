@@ -1,13 +1,9 @@
 -- Whether so many pages have room in pieces, from a floor on, at a multiple of a unit.
-use Rattle.std.proofs.Common.{◌≡◌, ℕ, ◌+◌, ◌-◌, ◌*◌, ◌/◌, ◌%◌, ◌^◌, ◌<◌, ◌≤◌, max, bit_and, false, List, [], ◌∷◌, ◌++◌}
-use Rattle.std.proofs.Common.{ap, sym, ◌∙◌, inl, inr, arith}
-use Rattle.std.specs.List.{AllByRecursion}
-use Rattle.std.proofs.lemmas.Nat.{and_mask}
-use Rattle.std.proofs.Math.Nat.{div-add-mod, mul-mod_right, mul-le-mul_left, lt_of_mul-lt-mul_left}
-use Rattle.piece_tree.specs.declared.piece.Piece.{Piece}
-use Rattle.piece_tree.specs.Pieces.{AreSorted, is_free}
-use Rattle.piece_tree.specs.Search.{HasNoRoom, IsRoundUp}
-use Rattle.piece_tree.specs.Tree.{Shape, Empty, Fork, free_pages, items, longest_of}
+use Rattle.piece_tree.proofs.Names.{◌≡◌, ℕ, ◌+◌, ◌-◌, ◌*◌, ◌/◌, ◌%◌, ◌^◌, ◌<◌, ◌≤◌, max, bit_and, List, [], ◌∷◌, ap, sym, ◌∙◌, inl}
+use Rattle.piece_tree.proofs.Names.{inr, arith, AllByRecursion, and_mask, div-add-mod, mul-mod_right, mul-le-mul_left}
+use Rattle.piece_tree.proofs.Names.{lt_of_mul-lt-mul_left, Piece, AreSorted, HasNoRoom, IsRoundUp, Shape, Empty, Fork, free_pages, items}
+use Rattle.piece_tree.proofs.Names.{longest_of}
+use Rattle.piece_tree.proofs.shapes.Sorted.{all_append}
 use Rattle.piece_tree.proofs.shapes.Tall.{order}
 
 -- ---- multiples
@@ -46,27 +42,14 @@ masked_up page unit order e some =
 
 -- ---- no room
 
--- where the first aligned page doesn't leave enough pages, none does
-pub no_room : (p : Piece) (floor pages unit up : ℕ) → IsRoundUp (max p.first floor) unit up → p.last + 1 < up + pages
-    → HasNoRoom floor pages unit p
-no_room p floor pages unit up r h free t a b l = let k : up ≤ t = r.2 t b a in absurd (omega arith)
-
-pub no_room-unless_free : (p : Piece) (floor pages unit : ℕ) → is_free p.state ≡ false → HasNoRoom floor pages unit p
-no_room-unless_free p floor pages unit e free t a b l = absurd (cc)
-
-pub none_append : (floor pages unit : ℕ) (xs : List Piece) (q : Piece) (ys : List Piece)
-    → AllByRecursion (HasNoRoom floor pages unit) xs → HasNoRoom floor pages unit q → AllByRecursion (HasNoRoom floor pages unit) ys
-    → AllByRecursion (HasNoRoom floor pages unit) (xs ++ q ∷ ys)
-none_append floor pages unit [] q ys a b c = (b, c)
-none_append floor pages unit (x ∷ xs) q ys a b c = (a.0, none_append floor pages unit xs q ys a.1 b c)
-
 -- where all that is free is too short
 pub none_short : (floor pages unit : ℕ) (t : Shape) → longest_of t < pages → AllByRecursion (HasNoRoom floor pages unit) (items t)
 none_short floor pages unit Empty h = tt
 none_short floor pages unit (Fork k p l r) h =
-    none_append floor pages unit (items l) p (items r) (none_short floor pages unit l (omega arith))
-    (λ free t a b c. let e : free_pages p ≡ p.last + 1 - p.first = grind (arith, free) in omega arith)
-    (none_short floor pages unit r (omega arith))
+    all_append (HasNoRoom floor pages unit) (items l) (p ∷ items r) (none_short floor pages unit l (omega arith)) (
+      λ free t a b c. let e : free_pages p ≡ p.last + 1 - p.first = grind (arith, free) in omega arith,
+      none_short floor pages unit r (omega arith),
+    )
 
 -- where pieces end before so many pages from the floor on would
 pub none_between : (floor pages unit least end : ℕ) (ps : List Piece) → IsRoundUp floor unit least → end < least + pages

@@ -1,9 +1,7 @@
 -- The first piece of a row, and the last one.
-use Rattle.std.proofs.Common.{◌≡◌, ℕ, suc, ◌+◌, ◌-◌, ◌<◌, ◌≤◌, slice_index_or, List, [], ◌∷◌, ◌++◌, length, Option, Some, None, IsSome, refl, ap, sym, ◌∙◌, subst, arith}
-use Rattle.std.proofs.lemmas.Bool.Decides.{nat_tests}
-use Rattle.piece_tree.specs.declared.piece.Piece.{Piece}
-use Rattle.piece_tree.specs.Laid.{IsRow}
-use Rattle.piece_tree.specs.Pieces.{Holds, piece_at}
+use Rattle.piece_tree.proofs.Names.{◌≡◌, ℕ, suc, ◌+◌, ◌-◌, ◌<◌, ◌≤◌, slice_index_or, List, [], ◌∷◌, ◌++◌, length, Some, IsSome, refl, ap}
+use Rattle.piece_tree.proofs.Names.{sym, ◌∙◌, arith, nat_tests, Piece, MOST_PIECES, IsRow, with_row, Holds, piece_at}
+use Rattle.piece_tree.proofs.shapes.Forks.{is_there}
 use Rattle.piece_tree.proofs.shapes.Placed.{found_split}
 
 no_others : (ps : List Piece) → length ps ≡ 0 → ps ≡ []
@@ -15,7 +13,7 @@ pub row-one : (from last : ℕ) (row : List Piece) (first : Piece) (rest : List 
     → IsRow from row (last + 1) → (first.first ≡ from) × (first.last ≡ last) × (row ≡ first ∷ [])
 row-one from last row first rest e none r =
     let is : row ≡ first ∷ [] = e ∙ ap (λ l. first ∷ l) (no_others rest none) in
-    let s : IsRow from (first ∷ []) (last + 1) = subst (λ l. IsRow from l (last + 1)) is r in
+    let s = rw is at r in
     (s.0, omega (arith, s.2), is)
 
 row-end : (from end : ℕ) (xs : List Piece) (q : Piece) → IsRow from (xs ++ q ∷ []) end → end ≡ q.last + 1
@@ -28,7 +26,7 @@ pub row-ends : (from last : ℕ) (row : List Piece) (first : Piece) (rest others
     → (first.first ≡ from) × (final.last ≡ last) × (row ≡ first ∷ others ++ final ∷ [])
 row-ends from last row first rest others final e f r =
     let is : row ≡ first ∷ others ++ final ∷ [] = e ∙ ap (λ l. first ∷ l) f in
-    let s : IsRow from (first ∷ others ++ final ∷ []) (last + 1) = subst (λ l. IsRow from l (last + 1)) is r in
+    let s = rw is at r in
     let k = row-end (first.last + 1) (last + 1) others final s.2 in
     (s.0, omega (arith, k), is)
 
@@ -48,7 +46,7 @@ row-finishes from last (x ∷ y ∷ ys) q d r h e = row-finishes (x.last + 1) la
     step =
         let n : length (x ∷ y ∷ ys) - 1 ≡ suc (length ys) = omega arith in
         let m : length (y ∷ ys) - 1 ≡ length ys = omega arith in
-        ap (λ i. slice_index_or (x ∷ y ∷ ys) i d) n ∙ sym (ap (λ i. slice_index_or (y ∷ ys) i d) m)
+        rw (n, m) refl
 
 -- the row by its own ends
 pub row-is : (from last : ℕ) (row : List Piece) (p q : Piece) → IsRow from row (last + 1)
@@ -58,11 +56,7 @@ pub row-is : (from last : ℕ) (row : List Piece) (p q : Piece) → IsRow from r
 row-is from last row p q r a b =
     let e = row-begins from (last + 1) row p p r a.0 (a.1 p) in
     let f = row-finishes from last row q q r b.0 (b.1 q) in
-    (e, f, subst (λ n. IsRow n row (q.last + 1)) (sym e) (subst (λ n. IsRow from row (n + 1)) (sym f) r))
-
-pub some_at : (o : Option Piece) (p : Piece) → o ≡ Some p → IsSome o
-some_at None p e = absurd (cc)
-some_at (Some q) p e = refl
+    (e, f, rw (e, f) r)
 
 -- a page of a piece that is there lies in some piece
 some_in : (xs : List Piece) (p : Piece) (ys : List Piece) (page : ℕ) → Holds p page → IsSome (piece_at (xs ++ p ∷ ys) page)
@@ -70,8 +64,23 @@ unfolding piece_at
 some_in [] p ys page h = grind (arith, nat_tests, h.0, h.1)
 some_in (x ∷ xs) p ys page h = let r = some_in xs p ys page h in grind (arith, nat_tests, r)
 
-pub some-later : (first last : ℕ) (ps : List Piece) (p : Piece) → piece_at ps first ≡ Some p → first ≤ last → last ≤ p.last
+some-later : (first last : ℕ) (ps : List Piece) (p : Piece) → piece_at ps first ≡ Some p → first ≤ last → last ≤ p.last
     → IsSome (piece_at ps last)
-some-later first last ps p e h k =
-    let r = found_split ps first p e in
-    subst (λ l. IsSome (piece_at l last)) (sym r.2) (some_in r.0 p r.1 last (omega (arith, r.3, h), k))
+some-later first last ps p e h k = let r = found_split ps first p e in rw r.2 (some_in r.0 p r.1 last (omega (arith, r.3, h), k))
+
+-- what is told of the pages of a row is so by its own ends
+pub row-inside : (row view : List Piece) (p q : Piece)
+    → (from : ℕ) × (last : ℕ) × (there : Piece) × (from ≤ last) × IsRow from row (last + 1) × (piece_at view from ≡ Some there)
+    × (last ≤ there.last) × (length (with_row from row last view) ≤ MOST_PIECES)
+    → (0 < length row) × ((d : Piece) → p ≡ slice_index_or row 0 d)
+    → (0 < length row) × ((d : Piece) → q ≡ slice_index_or row (length row - 1) d)
+    → (p.first ≤ q.last) × IsRow p.first row (q.last + 1) × IsSome (piece_at view p.first) × IsSome (piece_at view q.last)
+    × (length (with_row p.first row q.last view) ≤ MOST_PIECES)
+row-inside row view p q (from, last, there, some, fine, at, end, few) a b =
+    let r = row-is from last row p q fine a b in (
+      omega (arith, r.0, r.1, some),
+      r.2,
+      rw r.0 (is_there at),
+      rw r.1 (some-later from last view there at some end),
+      rw (r.0, r.1) few,
+    )

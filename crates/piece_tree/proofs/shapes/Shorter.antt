@@ -1,14 +1,9 @@
 -- The way down to what is left before a page: its pieces are short before that page just where all are.
-use Rattle.std.proofs.Common.{◌≡◌, ℕ, ◌+◌, ◌<◌, ◌≤◌, ◌↔◌, ◌∷◌, ◌++◌, Some, None, IsSome, ap, sym, ◌∙◌, subst, arith}
-use Rattle.std.specs.List.{AllByRecursion}
-use Rattle.slab.specs.Slab.{Slab, get}
-use Rattle.piece_tree.specs.declared.node.Node.{Node}
-use Rattle.piece_tree.specs.declared.node.Top.{Top}
-use Rattle.piece_tree.specs.Pieces.{AreSorted, IsPiece}
-use Rattle.piece_tree.specs.Search.{IsShortBefore}
-use Rattle.piece_tree.specs.Tree.{Look, Shape, Empty, Fork, IsTop, IsWhole, Stands, at_root, free_pages, items, longest_of}
-use Rattle.piece_tree.proofs.shapes.Beside.{none_empty}
-use Rattle.piece_tree.proofs.shapes.Led.{Roots, node_height, root-falls, root_there, roots}
+use Rattle.piece_tree.proofs.Names.{◌≡◌, ℕ, ◌+◌, ◌<◌, ◌≤◌, ◌↔◌, ◌∷◌, ◌++◌, Some, None, IsSome, ap, sym, ◌∙◌, arith, AllByRecursion}
+use Rattle.piece_tree.proofs.Names.{Slab, get, Node, Top, AreSorted, IsPiece, IsShortBefore, Look, Shape, Empty, Fork, IsTop, IsWhole}
+use Rattle.piece_tree.proofs.Names.{Stands, at_root, free_pages, height_of, items, longest_of}
+use Rattle.piece_tree.proofs.shapes.Forks.{none_empty}
+use Rattle.piece_tree.proofs.shapes.Led.{Roots, node_height, root_falls, root_there, roots}
 use Rattle.piece_tree.proofs.shapes.Sorted.{all_append, all_left, all_map, all_right, begins_above, ends_below, sorted_at, sorted_front}
 use Rattle.piece_tree.proofs.shapes.Sought.{top_root}
 
@@ -56,57 +51,58 @@ shorter_start nodes root page pages t w = record {
 }
 
 -- nothing is left
-pub shorter_end : (nodes : Slab Node) (at : Top) (page pages : ℕ) (t : Shape) → Tells nodes at page pages t → at.root ≡ None
+pub shorter_end : {nodes : Slab Node} {at : Top} {page pages : ℕ} {t : Shape} → Tells nodes at page pages t → at.root ≡ None
     → AreShortBefore page pages t
-shorter_end nodes at page pages t i e =
-    i.same.0 (subst (λ x. AreShortBefore page pages x) (sym (none_empty i.there (top_root i.there i.below.0 ∙ e))) tt)
+shorter_end i e = i.same.0 (rw (none_empty i.there (top_root i.there i.below.0 ∙ e)) tt)
 
 -- what is longest there is short
-pub shorter_all : (nodes : Slab Node) (at : Top) (page pages : ℕ) (t : Shape) → Tells nodes at page pages t → at.longest < pages
+pub shorter_all : {nodes : Slab Node} {at : Top} {page pages : ℕ} {t : Shape} → Tells nodes at page pages t → at.longest < pages
     → AreShortBefore page pages t
-shorter_all nodes at page pages t i h =
+shorter_all {page = page} {pages = pages} i h =
     i.same.0 (short_before page pages i.there (omega (arith, h, ap (λ (v : Top). v.longest) i.below.0)))
 
 -- ---- at a node
 
-module _ (nodes : Slab Node) (at : Top) (page pages key : ℕ) (t : Shape) (i : Tells nodes at page pages t) (e : at.root ≡ Some key) where
+module _ {nodes : Slab Node} {at : Top} {page pages key : ℕ} {t : Shape} (i : Tells nodes at page pages t) (e : at.root ≡ Some key) where
   pub shorter-there : IsSome (get nodes key)
   shorter-there = root_there (get nodes) key i.there (top_root i.there i.below.0 ∙ e) i.below.1
 
-  module _ (node : Node) (f : get nodes key ≡ Some node) where
+  module _ {node : Node} (f : get nodes key ≡ Some node) where
     abbrev z : Roots key node i.there
     z = roots (get nodes) key node i.there (top_root i.there i.below.0 ∙ e) i.below.1 f
 
     stands : Stands (get nodes) (Fork key node.piece z.l z.r)
-    stands = subst (λ x. Stands (get nodes) x) z.is i.below.1
+    stands = rw z.is at i.below.1
 
     sorted : AreSorted i.from (items z.l ++ node.piece ∷ items z.r)
-    sorted = subst (λ x. AreSorted i.from (items x)) z.is i.sorted
+    sorted = rw z.is at i.sorted
 
     sorted-right : AreSorted (node.piece.last + 1) (items z.r)
     sorted-right = (sorted_at i.from (items z.l) node.piece (items z.r) sorted).2
-
-    shorter-left : IsTop (get nodes) node.left z.l
-    shorter-left = (z.left, stands.3)
 
     pub shorter-piece : IsPiece node.piece
     shorter-piece = stands.1
 
     pub shorter-falls : (node_height (at_root (get nodes) node.left.root) < node_height (at_root (get nodes) at.root))
         × (node_height (at_root (get nodes) node.right.root) < node_height (at_root (get nodes) at.root))
-    shorter-falls = root-falls (get nodes) at.root key node i.there e z i.below.1 f
+    shorter-falls =
+        let high = sym (top_root i.there i.below.0) in (
+          root_falls (get nodes) _ _ i.there z.l high i.below.1 (ap (λ (v : Top). v.root) z.left) stands.3
+              (omega (arith, ap height_of z.is)),
+          root_falls (get nodes) _ _ i.there z.r high i.below.1 (ap (λ (v : Top). v.root) z.right) stands.4
+              (omega (arith, ap height_of z.is)),
+        )
 
     -- all are short where those on both sides are, and the piece between them
     together : AreShortBefore page pages z.l → IsShortBefore page pages node.piece → AreShortBefore page pages z.r
         → AreShortBefore page pages t
     together left here right =
-        i.same.0 (subst (λ x. AreShortBefore page pages x) (sym z.is)
-        (all_append (IsShortBefore page pages) (items z.l) (node.piece ∷ items z.r) left (here, right)))
+        i.same.0 (rw z.is (all_append (IsShortBefore page pages) (items z.l) (node.piece ∷ items z.r) left (here, right)))
 
     apart : AreShortBefore page pages t
         → AreShortBefore page pages z.l × IsShortBefore page pages node.piece × AreShortBefore page pages z.r
     apart all =
-        let own = subst (λ x. AreShortBefore page pages x) z.is (i.same.1 all) in
+        let own = rw z.is at (i.same.1 all) in
         let here = all_right (IsShortBefore page pages) (items z.l) (node.piece ∷ items z.r) own in
         (all_left (IsShortBefore page pages) (items z.l) (node.piece ∷ items z.r) own, here.0, here.1)
 
@@ -125,7 +121,7 @@ module _ (nodes : Slab Node) (at : Top) (page pages key : ℕ) (t : Shape) (i : 
     shorter-before h = record {
       there = z.l;
       from = i.from;
-      below = shorter-left;
+      below = (z.left, stands.3);
       sorted = sorted_front i.from (items z.l) (node.piece ∷ items z.r) sorted;
       same = (
         (λ left. together left (λ before. absurd (omega (arith, h, before)))
@@ -141,5 +137,9 @@ module _ (nodes : Slab Node) (at : Top) (page pages key : ℕ) (t : Shape) (i : 
       from = node.piece.last + 1;
       below = (z.right, stands.4);
       sorted = sorted-right;
-      same = ((λ right. together (short_before page pages z.l (omega (arith, left, ap (λ (v : Top). v.longest) z.left))) (λ before. here) right), (λ all. (apart all).2));
+      same = (
+        (λ right. together (short_before page pages z.l (omega (arith, left, ap (λ (v : Top). v.longest) z.left))) (λ before. here)
+            right),
+        (λ all. (apart all).2),
+      );
     }

@@ -1,11 +1,6 @@
 -- Pieces in order, in lists that are put together.
-use Rattle.std.proofs.Common.{◌≡◌, ℕ, true, false, ◌+◌, ◌<◌, ◌≤◌, List, [], ◌∷◌, ◌++◌, refl, ap, sym, ◌∙◌, subst, arith, append_assoc}
-use Rattle.std.proofs.lemmas.List.{append-nil}
-use Rattle.std.specs.List.{AllByRecursion}
-use Rattle.piece_tree.specs.declared.piece.Piece.{Piece}
-use Rattle.piece_tree.specs.Pieces.{AreSorted, Holds, IsPiece}
-use Rattle.piece_tree.specs.Tree.{items}
-use Rattle.piece_tree.specs.Way.{Above, Whole, Beside, among, front, back}
+use Rattle.piece_tree.proofs.Names.{◌≡◌, ℕ, true, false, ◌+◌, ◌<◌, ◌≤◌, List, [], ◌∷◌, ◌++◌, sym, ◌∙◌, arith, append_assoc, append-nil}
+use Rattle.piece_tree.proofs.Names.{AllByRecursion, Piece, AreSorted, IsPiece, items, Above, Whole, Beside, among, front, back}
 
 pub all_append : (P : Piece → Type 0) (xs ys : List Piece) → AllByRecursion P xs → AllByRecursion P ys → AllByRecursion P (xs ++ ys)
 all_append P [] ys a b = b
@@ -31,12 +26,9 @@ pub sorted_front : (from : ℕ) (xs ys : List Piece) → AreSorted from (xs ++ y
 sorted_front from [] ys s = tt
 sorted_front from (x ∷ xs) ys s = (s.0, s.1, sorted_front (x.last + 1) xs ys s.2)
 
-pub sorted_behind : (xs ys : List Piece) → AreSorted 0 (xs ++ ys) → AreSorted 0 ys
-sorted_behind xs ys s = go 0 xs s
-  where
-    go : (from : ℕ) (xs : List Piece) → AreSorted from (xs ++ ys) → AreSorted 0 ys
-    go from [] s = sorted_from 0 from ys (omega arith) s
-    go from (x ∷ xs) s = go (x.last + 1) xs s.2
+pub sorted_back : (from : ℕ) (xs ys : List Piece) → AreSorted from (xs ++ ys) → AreSorted from ys
+sorted_back from [] ys s = s
+sorted_back from (x ∷ xs) ys s = sorted_from from (x.last + 1) ys (omega (arith, s.0, s.1)) (sorted_back (x.last + 1) xs ys s.2)
 
 pub sorted_at : (from : ℕ) (xs : List Piece) (p : Piece) (ys : List Piece) → AreSorted from (xs ++ p ∷ ys)
     → (from ≤ p.first) × IsPiece p × AreSorted (p.last + 1) ys
@@ -71,25 +63,3 @@ sorted_there (Beside true key p o up) ps from s =
 sorted_there (Beside false key p o up) ps from s =
     let a = sorted_there up (items o ++ p ∷ ps) from s in
     (p.last + 1, (sorted_at a.0 (items o) p ps a.1).2)
-
--- ---- one split of a list
-
--- a page lies in one piece alone
-pub same_split : (from page : ℕ) (xs : List Piece) (p : Piece) (ys bs : List Piece) (q : Piece) (cs : List Piece)
-    → xs ++ p ∷ ys ≡ bs ++ q ∷ cs → AreSorted from (xs ++ p ∷ ys) → Holds p page → Holds q page → (xs ≡ bs) × (p ≡ q) × (ys ≡ cs)
-same_split from page [] p ys [] q cs e s h g = (refl, cc, cc)
-same_split from page [] p ys (b ∷ bs) q cs e s h g =
-    let hd : p ≡ b = cc in
-    let tl : ys ≡ bs ++ q ∷ cs = cc in
-    let a = sorted_at (p.last + 1) bs q cs (subst (λ l. AreSorted (p.last + 1) l) tl s.2) in
-    absurd (omega (arith, a.0, h, g))
-same_split from page (x ∷ xs) p ys [] q cs e s h g =
-    let hd : x ≡ q = cc in
-    let a = sorted_at (x.last + 1) xs p ys s.2 in
-    let l : x.last ≡ q.last = ap (λ (r : Piece). r.last) hd in
-    absurd (omega (arith, a.0, h, g))
-same_split from page (x ∷ xs) p ys (b ∷ bs) q cs e s h g =
-    let hd : x ≡ b = cc in
-    let tl : xs ++ p ∷ ys ≡ bs ++ q ∷ cs = cc in
-    let a = same_split (x.last + 1) page xs p ys bs q cs tl s.2 h g in
-    (cc, a.1, a.2)

@@ -1,12 +1,7 @@
 -- A tree is low, and has the pieces that its look-ups give.
-use Rattle.std.proofs.Common.{◌≡◌, ℕ, zero, suc, ◌+◌, ◌<◌, ◌≤◌, ◌∷◌, ◌++◌, length, [], Option, refl, ap, ◌∙◌, inl, inr, ◌⊎◌}
-use Rattle.std.proofs.Common.{arith, length-append}
-use Rattle.std.proofs.lemmas.Bool.Decides.{leb_tells}
-use Rattle.slab.specs.Slab.{Slab, get}
-use Rattle.piece_tree.specs.declared.node.Node.{Node}
-use Rattle.piece_tree.specs.declared.node.Top.{Top}
-use Rattle.piece_tree.specs.Tree.{Look, Shape, Empty, Fork, items, height_of, root_of, top_of, Stands, at_root, around, contents, pieces_of}
-use Rattle.piece_tree.specs.Tree.{IsWhole}
+use Rattle.piece_tree.proofs.Names.{◌≡◌, ℕ, zero, suc, ◌+◌, ◌<◌, ◌≤◌, length, [], Option, refl, ap, ◌∙◌, inl, inr, ◌⊎◌, arith}
+use Rattle.piece_tree.proofs.Names.{length-append, leb_tells, Slab, get, Node, Top, Look, Shape, Empty, Fork, items, height_of, root_of}
+use Rattle.piece_tree.proofs.Names.{top_of, Stands, contents, pieces_of, IsWhole, AreSorted, List, Piece, sym}
 
 pub order : (a b : ℕ) → (a ≤ b) ⊎ (b < a)
 order a b = elim (leb_tells a b) [ inl h ↦ inl h.1 | inr h ↦ inr h.1 ]
@@ -20,18 +15,18 @@ least (suc (suc n)) = least (suc n) + least n + 1
 tall_least : (look : Look) (n : ℕ) (t : Shape) → Stands look t → n ≤ height_of t → least n ≤ length (items t)
 tall_least look zero t s h = omega arith
 tall_least look (suc zero) Empty s h = absurd (omega arith)
-tall_least look (suc zero) (Fork k p l r) s h = omega (arith, length-append (items l) (p ∷ items r))
+tall_least look (suc zero) (Fork k p l r) s h = omega (arith, length-append {A = Piece})
 tall_least look (suc (suc n)) Empty s h = absurd (omega arith)
 tall_least look (suc (suc n)) (Fork k p l r) s h =
     elim (order (height_of l) (height_of r)) [
       | inl x ↦
           let c = tall_least look n l s.3 (omega (arith, s.2)) in
           let d = tall_least look (suc n) r s.4 (omega (arith, s.2)) in
-          omega (arith, length-append (items l) (p ∷ items r))
+          omega (arith, length-append {A = Piece})
       | inr x ↦
           let c = tall_least look (suc n) l s.3 (omega (arith, s.2)) in
           let d = tall_least look n r s.4 (omega (arith, s.2)) in
-          omega (arith, length-append (items l) (p ∷ items r))
+          omega (arith, length-append {A = Piece})
     ]
 
 pub low_tree : (look : Look) (t : Shape) → Stands look t → length (items t) ≤ 1024 → height_of t ≤ 14
@@ -41,25 +36,22 @@ low_tree look t s h =
       | inr x ↦ let e : 1596 ≤ length (items t) = tall_least look 15 t s x in absurd (omega arith)
     ]
 
-pub whole-low : (nodes : Slab Node) (root : Top) (t : Shape) → IsWhole nodes root t → height_of t ≤ 14
-whole-low nodes root t w = w.low
-
 pub contents_is : (look : Look) (depth : ℕ) (root : Option ℕ) (t : Shape) → root ≡ root_of t → Stands look t → height_of t ≤ depth
     → contents look depth root ≡ items t
 unfolding contents
 contents_is look zero root Empty e s h = refl
 contents_is look zero root (Fork k p l r) e s h = absurd (omega arith)
-contents_is look (suc depth) root Empty e s h = ap (λ o. around (at_root look o) (contents look depth)) e
+contents_is look (suc depth) root Empty e s h = rw e
 contents_is look (suc depth) root (Fork k p l r) e s h =
-    ap (λ o. around (at_root look o) (contents look depth)) e
-    ∙ ap (λ o. around o (contents look depth)) s.0
-    ∙ ap (λ xs. xs ++ p ∷ contents look depth (root_of r)) (contents_is look depth (root_of l) l refl s.3 (omega arith))
-    ∙ ap (λ ys. items l ++ p ∷ ys) (contents_is look depth (root_of r) r refl s.4 (omega arith))
+    rw (e, s.0, contents_is look depth (root_of l) l refl s.3 (omega arith), contents_is look depth (root_of r) r refl s.4 (omega arith))
 
 -- what is kept is what is seen
-pub whole_view : (nodes : Slab Node) (root : Top) (t : Shape) → IsWhole nodes root t → pieces_of nodes root ≡ items t
-whole_view nodes root t w =
-    contents_is (get nodes) 14 root.root t (ap (λ (v : Top). v.root) w.here) w.stands (whole-low nodes root t w)
+pub whole_view : {nodes : Slab Node} {root : Top} {t : Shape} → IsWhole nodes root t → pieces_of nodes root ≡ items t
+whole_view {nodes} {root} {t} w = contents_is (get nodes) 14 root.root t (ap (λ (v : Top). v.root) w.here) w.stands w.low
+
+pub view_sorted : {nodes : Slab Node} {root : Top} {t : Shape} {view : List Piece} → IsWhole nodes root t → pieces_of nodes root ≡ view
+    → AreSorted 0 view
+view_sorted w e = rw (sym e ∙ whole_view w) w.sorted
 
 pub none_view : (nodes : Slab Node) → pieces_of nodes (top_of Empty) ≡ []
 unfolding contents

@@ -1,7 +1,4 @@
-use Rattle.std.proofs.Common.{◌≡◌, arith, refl, slice_index_or}
-use Rattle.std.proofs.lemmas.Bool.Decides.{nat_tests}
-use Rattle.piece_tree.specs.declared.piece.PageState.TheVariants.{Free}
-use Rattle.piece_tree.specs.declared.piece.Piece.{Piece}
+use Rattle.iova.proofs.Names.{◌≡◌, arith, refl, slice_index_or, nat_tests, Free, Piece}
 use Rattle.iova.proofs.carvings.At.{at_place}
 use Rattle.iova.proofs.carved.is_at.Goals as goal
 

@@ -1,8 +1,5 @@
-use Rattle.std.proofs.Common.{◌∙◌, ◌-◌, ◌≡◌, List, [], ◌∷◌, None, Some, get_or, length, slice_get, refl, ap, sym, arith}
-use Rattle.std.proofs.lemmas.Option.{slice_get-get_or}
-use Rattle.std.specs.Option.{option_copied}
-use Rattle.piece_tree.specs.declared.piece.Piece.{Piece}
-use Rattle.piece_tree.specs.Pieces.{piece_at}
+use Rattle.iova.proofs.Names.{◌∙◌, ◌-◌, ◌≡◌, List, [], ◌∷◌, None, Some, get_or, length, slice_get, refl, ap, sym, arith, slice_get-get_or}
+use Rattle.iova.proofs.Names.{option_copied, Piece, piece_at}
 use Rattle.iova.proofs.carvings.PieceAt.{at_last, none_past_last, follow_ordered}
 use Rattle.iova.proofs.searches.Found.{at-nil}
 use Rattle.iova.proofs.carved.piece_at.Goals as goal

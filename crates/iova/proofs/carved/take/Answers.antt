@@ -1,5 +1,4 @@
-use Rattle.std.proofs.Common.{sym, subst, arith}
-use Rattle.iova.specs.Space.{IsSpace}
+use Rattle.iova.proofs.Names.{sym, subst, arith, IsSpace}
 use Rattle.iova.proofs.Taken.{one_start, space_taken}
 use Rattle.iova.proofs.searches.FromFloor.{from_first, one_from}
 use Rattle.iova.proofs.carved.take.Goals as goal
@@ -16,8 +15,8 @@ returns-in-Some-clause-too_many c = (
   (λ h.
       let s = c.args.sought in
       let ps = c.args.tree.now.pieces in
-      let low = from_first s.floor s.pages s.unit c.in-Some.start ps (omega (arith, c.if-sought-eq1.true)) c.requires.space.ordered
-      c.requires.sought.some c.in-Some.ensures.lowest in
-      absurd (one_start ps s.pages c.in-Some.start h.0 (one_from s.floor s.pages s.unit c.in-Some.start h.0 ps low h.1)
-      c.in-Some.ensures.few h.2)),
+      let o = c.requires.space.ordered in
+      let low = from_first s.floor s.pages s.unit _ ps (omega (arith, c.if-sought-eq1.true)) o c.requires.sought.some
+      c.in-Some.ensures.lowest in
+      absurd (one_start ps s.pages _ h.0 (one_from s.floor s.pages s.unit _ h.0 ps low h.1) c.in-Some.ensures.few h.2)),
 )

@@ -1,5 +1,4 @@
-use Rattle.std.proofs.Common.{◌∙◌, ap}
-use Rattle.iova.specs.Pieces.{end_by}
+use Rattle.iova.proofs.Names.{◌∙◌, ap, end_by}
 use Rattle.iova.proofs.searches.Neighbours.{end_at}
 use Rattle.iova.proofs.ends.free_ends_at.Goals as goal
 

@@ -1,5 +1,4 @@
-use Rattle.std.proofs.Common.{◌∙◌, ap, ◌-◌}
-use Rattle.iova.specs.Pieces.{start_by}
+use Rattle.iova.proofs.Names.{◌∙◌, ap, ◌-◌, start_by}
 use Rattle.iova.proofs.searches.BesidePieces.{piece_at_page}
 use Rattle.iova.proofs.searches.Neighbours.{start_at}
 use Rattle.iova.proofs.ends.free_start_at.Goals as goal

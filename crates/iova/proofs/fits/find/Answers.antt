@@ -1,7 +1,4 @@
-use Rattle.std.proofs.Common.{ℕ, IfNone, sym, subst, arith}
-use Rattle.std.specs.List.{AllByRecursion}
-use Rattle.piece_tree.specs.Search.{HasNoRoom, IsFound}
-use Rattle.iova.specs.Space.{IsFit}
+use Rattle.iova.proofs.Names.{ℕ, IfNone, sym, subst, arith, AllByRecursion, HasNoRoom, IsFound, IsFit}
 use Rattle.iova.proofs.searches.CutAt.{no_fit}
 use Rattle.iova.proofs.searches.Found.{found_above, found_lowest}
 use Rattle.iova.proofs.searches.FromFloor.{from_all, from_found, start_some}

@@ -1,6 +1,4 @@
-use Rattle.std.proofs.Common.{sym, subst}
-use Rattle.iova.specs.Pieces.{NoneFreeBelow}
-use Rattle.piece_tree.specs.Laid.{with_piece}
+use Rattle.iova.proofs.Names.{sym, subst, NoneFreeBelow, with_piece}
 use Rattle.iova.proofs.LowestFree.{none_below_put, none_below_used}
 use Rattle.iova.proofs.fits.low_behind.Goals as goal
 

@@ -1,5 +1,4 @@
-use Rattle.std.proofs.Common.{subst, arith}
-use Rattle.iova.specs.Space.{IsLowestFit}
+use Rattle.iova.proofs.Names.{subst, arith, IsLowestFit}
 use Rattle.iova.proofs.LowestFree.{none_below_lowest}
 use Rattle.iova.proofs.searches.FromFloor.{first_from}
 use Rattle.iova.proofs.fits.low_found.Goals as goal

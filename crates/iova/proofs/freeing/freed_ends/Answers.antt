@@ -1,13 +1,8 @@
-use Rattle.std.proofs.Common.{◌≡◌, ◌∙◌, ℕ, ap, arith, subst, sym}
-use Rattle.piece_tree.specs.declared.piece.PageState.TheVariants.{Live}
-use Rattle.iova.specs.declared.ends.Ends.{Ends}
-use Rattle.piece_tree.specs.Freed.{free_end, free_start}
-use Rattle.iova.specs.Pieces.{pages_as}
-use Rattle.iova.specs.Space.{Space}
-use Rattle.iova.specs.Stored.{AreLive, TakesPlace, stored}
-use Rattle.iova.proofs.Among.{in_le}
-use Rattle.iova.proofs.Shown.{freed_place, in_narrow}
-use Rattle.iova.proofs.searches.FreeEnds.{freed_piece}
+use Rattle.iova.proofs.Names.{◌≡◌, ◌∙◌, ℕ, ap, arith, subst, sym, Live, Ends, free_end, free_start, pages_as, Space, AreLive, TakesPlace}
+use Rattle.iova.proofs.Names.{stored, widened, with_piece, Free}
+use Rattle.iova.proofs.Among.{in_le, put_piece}
+use Rattle.iova.proofs.Keep.{in_narrow}
+use Rattle.iova.proofs.Shown.{freed_place, space_shown_free}
 use Rattle.iova.proofs.freeing.freed_ends.Goals as goal
 
 -- the same two ends
@@ -39,5 +34,8 @@ pub returns-in-Some-clause-narrow : goal.returns-in-Some-clause-narrow
 returns-in-Some-clause-narrow c =
     let a : Space = stored c.requires.space.0 c.args.tree.now in
     let i = subst (λ f. AreLive f c.args.tree.now) c.in-Some.is c.requires.freed in
-    let p = freed_piece a (pages_as c.in-Some.pages Live) c.requires.space.1 i in
-    omega (arith, c.free_ends_at.ensures.last, p.1)
+    let pages = c.in-Some.pages in
+    let whole = widened (pages_as pages Live) a.pieces in
+    let there = put_piece whole.first whole.last Free a.pieces in
+    let new = space_shown_free a pages c.requires.space.1 i in
+    omega (arith, c.free_ends_at.ensures.last, in_narrow (stored a.last (with_piece whole a.pieces)) whole new there)

@@ -1,20 +1,9 @@
-use Rattle.std.proofs.Common.{◌≡◌, ◌≢◌, ◌⊎◌, ◌∙◌, IfNone, Option, Some, None, inl, inr, refl, sym, ap, subst}
-use Rattle.piece_tree.specs.declared.piece.PageState.{PageState}
-use Rattle.piece_tree.specs.declared.piece.PageState.TheVariants.{Free, Live, Retired}
-use Rattle.iova.specs.Pieces.{state_at}
-use Rattle.iova.specs.Stored.{shown}
+use Rattle.iova.proofs.Names.{arith, ◌≡◌, ◌≢◌, ◌∙◌, IfNone, Some, None, refl, sym, ap, subst, Live, state_at, shown}
 use Rattle.iova.proofs.Among.{in_state}
 use Rattle.iova.proofs.Shown.{live_shown, state_inside, state_outside}
 use Rattle.iova.proofs.parts.Filled.{its_state, state_is}
 use Rattle.iova.proofs.searches.CutAt.{at_in}
 use Rattle.iova.proofs.freeing.live_at.Goals as goal
-
-nothing : (o : Option PageState) → None ≡ o → o ≢ Some Live
-nothing o e f = cc
-
-other : (o : Option PageState) (u : PageState) → (u ≡ Free) ⊎ (u ≡ Retired) → o ≡ Some u → o ≢ Some Live
-other o u (inl a) e f = cc
-other o u (inr a) e f = cc
 
 pub returns-then-came_free-clause-none : goal.returns-then-came_free-clause-none
 returns-then-came_free-clause-none c live =
@@ -29,8 +18,8 @@ returns-in_err-piece-clause-none c =
     let ps = c.args.tree.now in
     let out = state_outside s.0 ps s.1 c.args.freed c.requires.freed c.args.page (c.if-came_free.ensures.other refl) in
     subst (λ o. IfNone o (state_at (shown c.args.freed ps) c.args.page ≢ Some Live)) (sym c.from_residual.ensures)
-    (nothing (state_at (shown c.args.freed ps) c.args.page)
-    (ap its_state c.in_err-piece.ensures.piece ∙ state_is ps c.args.page ∙ sym out))
+    (λ live.
+    let none : None ≡ Some Live = ap its_state c.in_err-piece.ensures.piece ∙ state_is ps c.args.page ∙ sym out ∙ live in absurd (cc))
 
 pub returns-in-Live-clause-live : goal.returns-in-Live-clause-live
 returns-in-Live-clause-live c =
@@ -50,8 +39,5 @@ returns-in-Free c =
     let p = c.in_ok-piece.piece in
     let out = state_outside s.0 ps s.1 c.args.freed c.requires.freed c.args.page (c.if-came_free.ensures.other refl) in
     let i = at_in ps c.args.page p (sym c.in_ok-piece.ensures.piece) in
-    record {
-      live = tt;
-      none = other (state_at (shown c.args.freed ps) c.args.page) p.state c.in-Free.is
-          (out ∙ in_state 1 p ps c.args.page s.1.ordered i.0 i.1.0 i.1.1);
-    }
+    let here = in_state 1 p ps c.args.page s.1.ordered i.0 i.1.0 i.1.1 in
+    let is = c.in-Free.is in record { live = tt; none = λ e. absurd (grind arith) }

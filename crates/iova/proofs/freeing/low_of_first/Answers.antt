@@ -1,13 +1,5 @@
-use Rattle.std.proofs.Common.{◌≡◌, ℕ, ◌+◌, ◌-◌, ◌<◌, List, if◌then◌else◌, ap, arith, inl, inr, subst}
-use Rattle.std.specs.List.{AllByRecursion}
-use Rattle.dmatypes.specs.World.{IsIn}
-use Rattle.piece_tree.specs.declared.piece.PageState.TheVariants.{Free, Live}
-use Rattle.piece_tree.specs.declared.piece.Piece.{Piece}
-use Rattle.piece_tree.specs.Pieces.{is_free}
-use Rattle.piece_tree.specs.Search.{IsShortBefore}
-use Rattle.piece_tree.specs.Tree.{free_pages}
-use Rattle.iova.specs.Pieces.{IsOrdered, NoneFreeBelow, pages_as}
-use Rattle.iova.specs.Stored.{stored}
+use Rattle.iova.proofs.Names.{◌≡◌, ℕ, ◌+◌, ◌-◌, ◌<◌, List, if◌then◌else◌, ap, arith, inl, inr, subst, AllByRecursion, IsIn, Free, Live}
+use Rattle.iova.proofs.Names.{Piece, is_free, IsShortBefore, free_pages, IsOrdered, NoneFreeBelow, pages_as, stored}
 use Rattle.iova.proofs.Among.{in_all, in_le}
 use Rattle.iova.proofs.FirstFreed.{alone_lowest}
 use Rattle.iova.proofs.Pieces.{order}

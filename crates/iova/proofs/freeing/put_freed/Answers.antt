@@ -1,6 +1,4 @@
-use Rattle.std.proofs.Common.{Some, subst, sym}
-use Rattle.iova.specs.Space.{IsSpace}
-use Rattle.iova.specs.Stored.{AreLive, stored}
+use Rattle.iova.proofs.Names.{Some, subst, sym, IsSpace, AreLive, stored}
 use Rattle.iova.proofs.Shown.{space_shown, wide}
 use Rattle.iova.proofs.freeing.put_freed.Goals as goal
 

@@ -1,4 +1,4 @@
-use Rattle.std.proofs.Common.{◌∙◌, ap, refl, sym}
+use Rattle.iova.proofs.Names.{◌∙◌, ap, refl, sym}
 use Rattle.iova.proofs.Shown.{state_inside, state_outside}
 use Rattle.iova.proofs.parts.Filled.{its_state, state_is}
 use Rattle.iova.proofs.freeing.state_of.Goals as goal

@@ -1,8 +1,4 @@
-use Rattle.std.proofs.Common.{◌≡◌, ◌∙◌, Some, None, ap, subst, sym}
-use Rattle.piece_tree.specs.declared.piece.PageState.TheVariants.{Free}
-use Rattle.piece_tree.specs.Search.{first_or, pieces_from}
-use Rattle.iova.specs.Pieces.{pages_as}
-use Rattle.iova.specs.Stored.{CanList, with_freed}
+use Rattle.iova.proofs.Names.{◌≡◌, ◌∙◌, Some, None, ap, subst, sym, Free, first_or, pieces_from, pages_as, CanList, with_freed}
 use Rattle.iova.proofs.searches.InPlace.{shown_freed, shown_none, shown_same}
 use Rattle.iova.proofs.searches.Walked.{from_narrow}
 use Rattle.iova.proofs.tree_iter.first_from.Goals as goal

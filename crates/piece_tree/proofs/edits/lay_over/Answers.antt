@@ -1,24 +1,21 @@
-use Rattle.std.proofs.Common.{arith}
-use Rattle.piece_tree.specs.Tree.{Fork}
+use Rattle.piece_tree.proofs.Names.{None, refl, arith}
 use Rattle.piece_tree.proofs.shapes.Edited.{laid-can, laid-done}
+use Rattle.piece_tree.proofs.shapes.Over.{lay-can, lay-done, lay-held}
 use Rattle.piece_tree.proofs.edits.lay_over.Goals as goal
 
 pub replace-top-requires : goal.replace-top-requires
-replace-top-requires c = let q = c.requires in (_, _, _, q.7)
+replace-top-requires c = let q = c.requires in (_, _, _, lay-can q.3)
 
-pub mend-requires : goal.mend-requires
-mend-requires c =
+pub mend-root-requires : goal.mend-root-requires
+mend-root-requires c =
     let q = c.requires in
-    let m = c.replace-top.ensures _ _ _ q.7 in
-    (q.0, Fork c.args.held.key q.1 q.2 q.3, m.shape, laid-can q.6 m)
+    let m = c.replace-top.ensures _ _ _ (lay-can q.3) in
+    (_, _, _, laid-can (lay-held q.3) m)
 
-pub returns-clause-becomes : goal.returns-clause-becomes
-returns-clause-becomes c path p l r from end h can =
-    let m = c.replace-top.ensures _ _ _ can in
-    laid-done h m c.mend.new.nodes c.mend.result (c.mend.ensures.mended path (Fork c.args.held.key p l r) m.shape (laid-can h m))
-    c.mend.ensures.count.capacity
-
-pub returns-clause-len : goal.returns-clause-len
-returns-clause-len c path p l r from end h can =
-    let m = c.replace-top.ensures _ _ _ can in
-    omega (arith, m.len, c.mend.ensures.count.len)
+pub returns : goal.returns
+returns c t first last can =
+    let h = lay-held can in
+    let m = c.replace-top.ensures _ _ _ (lay-can can) in
+    let count = c.mend-root.ensures.count in
+    lay-done can refl (laid-done h m (c.mend-root.ensures.mended _ _ _ (laid-can h m)) count.capacity)
+    (omega (arith, m.len, count.len)) None tt

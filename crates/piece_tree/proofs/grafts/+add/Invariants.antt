@@ -1,6 +1,4 @@
-use Rattle.std.proofs.Common.{◌+◌, ◌*◌, Some}
-use Rattle.slab.specs.Slab.{get}
-use Rattle.piece_tree.specs.Tree.{at_root}
+use Rattle.piece_tree.proofs.Names.{◌+◌, ◌*◌, Some, get, at_root}
 use Rattle.piece_tree.proofs.shapes.Led.{node_height}
 use Rattle.piece_tree.proofs.grafts.+add.Given as goal
 

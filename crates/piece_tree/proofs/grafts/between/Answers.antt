@@ -1,24 +1,13 @@
-use Rattle.std.proofs.Common.{arith}
-use Rattle.slab.specs.Slab.{get}
+use Rattle.piece_tree.proofs.Names.{arith}
 use Rattle.piece_tree.proofs.shapes.Hung.{parts_flip, joins-flip, link_joins}
-use Rattle.piece_tree.proofs.shapes.Turned.{shows_height}
+use Rattle.piece_tree.proofs.shapes.Turned.{shown_heights}
 use Rattle.piece_tree.proofs.grafts.between.Goals as goal
 
-pub returns-then-far-near-clause-joins : goal.returns-then-far-near-clause-joins
-returns-then-far-near-clause-joins c n f parts =
-    let q = c.requires.parts in
-    let a = shows_height c.args.near n parts.near_is in
-    let b = shows_height c.args.far f parts.far_is in
-    let d = shows_height c.args.near q.0 q.2.near_is in
-    let e = shows_height c.args.far q.1 q.2.far_is in
-    joins-flip (get c.args.nodes.now) (get c.turn-then-far-near.new.nodes) c.args.before c.turn-then-far-near.result c.args.key
-    c.args.piece n f
-    (c.turn-then-far-near.ensures.joins f n (parts_flip (get c.args.nodes.now) c.args.near c.args.far c.args.key n f parts)
-    (omega arith))
+pub returns-then-height-2-clause-joins : goal.returns-then-height-2-clause-joins
+returns-then-height-2-clause-joins c n f parts =
+    let h = shown_heights parts in
+    let known = shown_heights c.requires.parts.2 in
+    joins-flip c.args.before (c.turn-then-height-2.ensures.joins f n (parts_flip parts) (omega arith))
 
 pub returns-clause-joins : goal.returns-clause-joins
-returns-clause-joins c n f parts =
-    let a = shows_height c.args.near n parts.near_is in
-    let b = shows_height c.args.far f parts.far_is in
-    link_joins (get c.args.nodes.now) (get c.link.new.nodes) c.args.before c.link.result c.args.key c.args.piece n f
-    (c.link.ensures.links n f parts (omega arith, omega arith))
+returns-clause-joins c n f parts = let h = shown_heights parts in link_joins (c.link.ensures.links n f parts (omega arith, omega arith))

@@ -1,8 +1,4 @@
-use Rattle.std.proofs.Common.{ap, sym, subst, arith, ◌++◌, ◌∷◌}
-use Rattle.slab.specs.Slab.{get}
-use Rattle.piece_tree.specs.declared.node.Top.{Top}
-use Rattle.piece_tree.specs.Graft.{Makes}
-use Rattle.piece_tree.specs.Tree.{Empty, items}
+use Rattle.piece_tree.proofs.Names.{ap, sym, subst, arith, ◌++◌, ◌∷◌, get, Top, Makes, Empty, items}
 use Rattle.piece_tree.proofs.shapes.Crowned.{crown-makes}
 use Rattle.piece_tree.proofs.shapes.Tall.{low_tree}
 use Rattle.piece_tree.proofs.grafts.crown.Goals as goal
@@ -23,5 +19,5 @@ pub returns-clause-makes : goal.returns-clause-makes
 returns-clause-makes c was n f parted near few =
     let key = c.insert_reserved-key in
     subst (λ top. Makes was key.new.self top Empty (items n ++ c.args.piece ∷ items f)) (sym c.tree.ensures)
-    (crown-makes parted key.result key.ensures.was_vacant key.new.self c.args.piece c.requires.piece near few key.ensures.updates
-    key.ensures.len key.ensures.capacity)
+    (crown-makes parted key.result key.ensures.was_vacant c.requires.piece near few key.ensures.updates key.ensures.len
+    key.ensures.capacity)

@@ -1,5 +1,4 @@
-use Rattle.std.proofs.Common.{arith}
-use Rattle.piece_tree.specs.Tree.{Empty}
+use Rattle.piece_tree.proofs.Names.{arith, Empty}
 use Rattle.piece_tree.proofs.shapes.Crowned.{parted-none}
 use Rattle.piece_tree.proofs.grafts.leaf.Goals as goal
 

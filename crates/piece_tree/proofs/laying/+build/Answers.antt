@@ -1,14 +1,7 @@
-use Rattle.std.proofs.Common.{◌≡◌, ℕ, ◌+◌, ◌-◌, ◌/◌, ◌<◌, ◌≤◌, ◌==◌, max, Bool, false, List, ◌∷◌, ◌++◌, length, get_or, take, drop, ap, sym, subst, ◌∙◌, add-one, arith}
-use Rattle.std.proofs.Common.{drop-cons}
-use Rattle.std.proofs.lemmas.Bool.Decides.{nat_tests}
-use Rattle.std.proofs.lemmas.List.{length-drop, length-take-le, take-append-drop, take_rest}
-use Rattle.piece_tree.specs.declared.piece.Piece.{Piece}
-use Rattle.piece_tree.specs.declared.node.Top.{Top}
-use Rattle.slab.specs.Slab.{Slab}
-use Rattle.piece_tree.specs.declared.node.Node.{Node}
-use Rattle.piece_tree.specs.declared.piece.TheConstants.{MOST_PIECES}
-use Rattle.piece_tree.specs.Graft.{IsLeastHeight, Makes, Parted}
-use Rattle.piece_tree.specs.Tree.{AreNear, Empty, items}
+use Rattle.piece_tree.proofs.Names.{◌≡◌, ℕ, ◌+◌, ◌-◌, ◌/◌, ◌<◌, ◌≤◌, ◌==◌, max, Bool, false, List, ◌∷◌, ◌++◌, length, get_or, take, drop}
+use Rattle.piece_tree.proofs.Names.{ap, sym, subst, ◌∙◌, add-one, arith, drop-cons, nat_tests, length-drop, length-take-le}
+use Rattle.piece_tree.proofs.Names.{take-append-drop, take_rest, Piece, Top, Slab, Node, MOST_PIECES, IsLeastHeight, Makes, Parted, AreNear}
+use Rattle.piece_tree.proofs.Names.{Empty, items}
 use Rattle.piece_tree.proofs.shapes.Crowned.{least-crown, least-far, least-near}
 use Rattle.piece_tree.proofs.shapes.Halved.{parted-two}
 use Rattle.piece_tree.proofs.laying.+build.Goals as goal
@@ -36,37 +29,30 @@ some_pieces : (n : ℕ) (empty : Bool) → empty ≡ (n == 0) → empty ≡ fals
 some_pieces n empty e h = let z : (n == 0) ≡ false = sym e ∙ h in grind (arith, nat_tests)
 
 -- trees of the two halves
-module _ (old mid new : Slab Node) (near far : Top) (ps : List Piece) (some : 0 < length ps) (few : length ps ≤ MOST_PIECES)
-    (n : Makes old mid near Empty (take (length ps / 2) ps))
-    (f : Makes mid new far Empty (take (length ps - (length ps / 2 + 1)) (drop (length ps / 2 + 1) ps)))
-    (ln : IsLeastHeight (length (take (length ps / 2) ps)) near.height)
-    (lf : IsLeastHeight (length (take (length ps - (length ps / 2 + 1)) (drop (length ps / 2 + 1) ps))) far.height) where
-  half_near : AreNear n.shape f.shape
-  half_near =
-      let h = halves ps some in
-      let a = ap (λ (v : Top). v.height) n.tree.is in
-      let b = ap (λ (v : Top). v.height) f.tree.is in
-      (omega (arith, a, b, least-near _ _ _ _ ln lf h.0 h.1), omega (arith, a, b, least-far _ _ _ _ ln lf h.0 h.1))
-
-  half_few : length (items n.shape) + length (items f.shape) < MOST_PIECES
-  half_few = let h = halves ps some in omega (arith, ap length n.all, ap length f.all, h.2, few)
-
-  half_parts : Parted old new near far Empty n.shape f.shape
-  half_parts = parted-two _ _ _ _ _ _ _ n f
+half_parts : {old mid new : Slab Node} {near far : Top} (ps : List Piece) → 0 < length ps → length ps ≤ MOST_PIECES
+    → (n : Makes old mid near Empty (take (length ps / 2) ps))
+    → (f : Makes mid new far Empty (take (length ps - (length ps / 2 + 1)) (drop (length ps / 2 + 1) ps)))
+    → IsLeastHeight (length (take (length ps / 2) ps)) near.height
+    → IsLeastHeight (length (take (length ps - (length ps / 2 + 1)) (drop (length ps / 2 + 1) ps))) far.height
+    → Parted old new near far Empty n.shape f.shape × AreNear n.shape f.shape
+    × (length (items n.shape) + length (items f.shape) < MOST_PIECES)
+half_parts ps some few n f ln lf =
+    let h = halves ps some in
+    let a = ap (λ (v : Top). v.height) n.tree.is in
+    let b = ap (λ (v : Top). v.height) f.tree.is in (
+      parted-two n f,
+      (omega (arith, least-near _ _ _ _ ln lf h.0 h.1), omega (arith, least-far _ _ _ _ ln lf h.0 h.1)),
+      omega (arith, ap length n.all, ap length f.all, h.2, few),
+    )
 
 pub crown-requires-clause-parts : goal.crown-requires-clause-parts
 crown-requires-clause-parts t c =
     let ps = c.args.pieces.now in
     let some = some_pieces (length ps) c.is_empty.result c.is_empty.ensures c.if-is_empty.false in
     let n = c.build-near.ensures in
-    let f = c.build-far.ensures in (
-      _,
-      n.makes.shape,
-      f.makes.shape,
-      half_parts _ _ _ _ _ ps some c.requires.few n.makes f.makes n.height f.height,
-      half_near _ _ _ _ _ ps some c.requires.few n.makes f.makes n.height f.height,
-      half_few _ _ _ _ _ ps some c.requires.few n.makes f.makes n.height f.height,
-    )
+    let f = c.build-far.ensures in
+    let h = half_parts ps some c.requires.few n.makes f.makes n.height f.height in
+    (_, _, _, h.0, h.1, h.2)
 
 pub returns-clause-makes : goal.returns-clause-makes
 returns-clause-makes t c =
@@ -74,12 +60,10 @@ returns-clause-makes t c =
     let some = some_pieces (length ps) c.is_empty.result c.is_empty.ensures c.if-is_empty.false in
     let n = c.build-near.ensures in
     let f = c.build-far.ensures in
+    let h = half_parts ps some c.requires.few n.makes f.makes n.height f.height in
     subst (λ l. Makes c.args.nodes.now c.crown.new.nodes c.crown.result Empty l)
     (around_one ps (items n.makes.shape) (items f.makes.shape) (length ps / 2) _ (omega (arith, some)) n.makes.all f.makes.all)
-    (c.crown.ensures.makes _ n.makes.shape f.makes.shape
-    (half_parts _ _ _ _ _ ps some c.requires.few n.makes f.makes n.height f.height)
-    (half_near _ _ _ _ _ ps some c.requires.few n.makes f.makes n.height f.height)
-    (half_few _ _ _ _ _ ps some c.requires.few n.makes f.makes n.height f.height))
+    (c.crown.ensures.makes _ _ _ h.0 h.1 h.2)
 
 pub returns-clause-height : goal.returns-clause-height
 returns-clause-height t c =

@@ -1,4 +1,4 @@
-use Rattle.std.proofs.Common.{length}
+use Rattle.piece_tree.proofs.Names.{length}
 use Rattle.piece_tree.proofs.laying.+build.Given as goal
 
 abbrev pub decreases-build : goal.decreases-build

@@ -1,5 +1,4 @@
-use Rattle.std.proofs.Common.{subst, sym}
-use Rattle.piece_tree.specs.Graft.{Makes}
+use Rattle.piece_tree.proofs.Names.{subst, sym, Makes}
 use Rattle.piece_tree.proofs.shapes.Trimmed.{made-same}
 use Rattle.piece_tree.proofs.laying.keep.Goals as goal
 

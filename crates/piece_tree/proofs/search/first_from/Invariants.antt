@@ -1,5 +1,4 @@
-use Rattle.slab.specs.Slab.{get}
-use Rattle.piece_tree.specs.Tree.{at_root}
+use Rattle.piece_tree.proofs.Names.{get, at_root}
 use Rattle.piece_tree.proofs.shapes.Led.{node_height}
 use Rattle.piece_tree.proofs.shapes.Sought.{IsNarrowing}
 use Rattle.piece_tree.proofs.search.first_from.Given as goal

@@ -1,4 +1,4 @@
-use Rattle.slab.specs.Slab.{get}
+use Rattle.piece_tree.proofs.Names.{get}
 use Rattle.piece_tree.proofs.shapes.Fitting.{IsFitting, how_much}
 use Rattle.piece_tree.proofs.search.go_fit.Given as goal
 

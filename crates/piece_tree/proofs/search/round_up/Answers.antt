@@ -1,5 +1,4 @@
-use Rattle.std.proofs.Common.{◌<◌, subst, sym}
-use Rattle.std.proofs.lemmas.Nat.{pow_pos}
+use Rattle.piece_tree.proofs.Names.{◌<◌, subst, sym, pow_pos}
 use Rattle.piece_tree.proofs.shapes.Room.{masked_up}
 use Rattle.piece_tree.proofs.search.round_up.Goals as goal
 

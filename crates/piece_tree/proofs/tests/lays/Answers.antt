@@ -1,4 +1,4 @@
-use Rattle.std.proofs.Common.{[], ◌∷◌, arith}
+use Rattle.piece_tree.proofs.Names.{[], ◌∷◌, arith}
 use Rattle.piece_tree.proofs.shapes.Longer.{row-longer}
 use Rattle.piece_tree.proofs.tests.lays.Goals as goal
 

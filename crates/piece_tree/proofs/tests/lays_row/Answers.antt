@@ -1,4 +1,4 @@
-use Rattle.std.proofs.Common.{sym, ◌∙◌, arith}
+use Rattle.piece_tree.proofs.Names.{sym, ◌∙◌, arith}
 use Rattle.piece_tree.proofs.shapes.Longer.{row-longer}
 use Rattle.piece_tree.proofs.tests.lays_row.Goals as goal
 

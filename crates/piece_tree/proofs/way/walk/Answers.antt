@@ -1,52 +1,42 @@
-use Rattle.std.proofs.Common.{arith, ◌∙◌, subst, length-set}
-use Rattle.piece_tree.specs.Way.{Leads}
-use Rattle.piece_tree.proofs.shapes.Led.{walk_start, walk-there, walk-few, walk-smaller, walk-leads}
-use Rattle.std.proofs.lemmas.Bool.Decides.{nat_tests}
+use Rattle.piece_tree.proofs.Names.{arith, sym, ◌∙◌, subst, length-set, IsSome, None, Piece, AreSteps, Lies, nat_tests, refl}
+use Rattle.piece_tree.proofs.shapes.Placed.{found-none}
+use Rattle.piece_tree.proofs.shapes.Led.{lies_at, look_start, lies-falls, placed-there, walk-few, walk-leads}
 use Rattle.piece_tree.proofs.way.walk.Goals as goal
 use Rattle.piece_tree.proofs.way.walk.Goals.{else-not-before-via-then-not-before+else-first-node, else-not-before-via-else-not-before}
 
 pub loop-at-init : goal.loop-at-init
-loop-at-init c = walk_start c.args.nodes.now c.args.root c.args.first c.args.last c.args.way.now c.told-way
+loop-at-init c = (
+  (λ t w. let q = look_start c.args.first c.args.last _ c.root-at.ensures w in
+      (q.0, subst (λ p. AreSteps c.args.way.now 0 p) (sym q.1) refl)),
+  c.told-way,
+)
 
 pub index-node-requires : goal.index-node-requires
 index-node-requires c =
-    let q = c.requires in
-    walk-there c.args.nodes.now c.args.root c.args.first c.args.last c.loop-at.way c.loop-at.at c.loop-at.depth c.in-Some.key c.loop-at.invariant
-    c.in-Some.is q.0 q.1
+    let q = c.requires.tree in let l = (c.loop-at.invariant.0 q.0 q.1).0 in placed-there q.1 (lies_at l) c.in-Some.is
 
 pub bounds-way-depth : goal.bounds-way-depth
-bounds-way-depth c =
-    let q = c.requires in
-    walk-few c.args.nodes.now c.args.root c.args.first c.args.last c.loop-at.way c.loop-at.at c.loop-at.depth c.in-Some.key c.loop-at.invariant
-    c.in-Some.is q.0 q.1
+bounds-way-depth c = let q = c.requires.tree in walk-few c.loop-at.way c.loop-at.depth q.1 (c.loop-at.invariant.0 q.0 q.1) c.in-Some.is
 
 pub offset_bounds-way-depth : goal.offset_bounds-way-depth
 offset_bounds-way-depth c =
-    let q = c.requires in
-    let h = walk-few c.args.nodes.now c.args.root c.args.first c.args.last c.loop-at.way c.loop-at.at c.loop-at.depth c.in-Some.key c.loop-at.invariant
-    c.in-Some.is q.0 q.1 in
-    omega arith
+    let q = c.requires.tree in omega (arith, walk-few c.loop-at.way c.loop-at.depth q.1 (c.loop-at.invariant.0 q.0 q.1) c.in-Some.is)
 
 pub overflow_add-depth : goal.overflow_add-depth
 overflow_add-depth c =
-    let q = c.requires in
-    let h = walk-few c.args.nodes.now c.args.root c.args.first c.args.last c.loop-at.way c.loop-at.at c.loop-at.depth c.in-Some.key c.loop-at.invariant
-    c.in-Some.is q.0 q.1 in
-    omega arith
+    let q = c.requires.tree in omega (arith, walk-few c.loop-at.way c.loop-at.depth q.1 (c.loop-at.invariant.0 q.0 q.1) c.in-Some.is)
 
 pub loop-at-smaller : goal.loop-at-smaller
 loop-at-smaller c =
-    let q = c.requires in
-    walk-smaller c.args.nodes.now c.args.root c.args.first c.args.last c.loop-at.way c.loop-at.at c.loop-at.depth c.in-Some.key
-    c.loop-at.invariant c.in-Some.is q.0 q.1 c.index-node.result.now c.index-node.ensures _ c.child-at.result c.child-at.ensures.before
-    c.child-at.ensures.behind
+    let q = c.requires.tree in
+    lies-falls q.1 (c.loop-at.invariant.0 q.0 q.1).0 c.in-Some.is c.index-node.ensures _ c.child.result c.child.ensures.before
+    c.child.ensures.behind _ c.root-at-in-Some.ensures
 
 pub loop-at-preserved : goal.loop-at-preserved
 loop-at-preserved c = (
-  (λ t w. walk-leads c.args.nodes.now c.args.root c.args.first c.args.last c.loop-at.way c.loop-at.at c.loop-at.depth c.in-Some.key
-      c.loop-at.invariant c.in-Some.is t w c.index-node.result.now c.index-node.ensures _ c.child-at.result
-      c.child-at.ensures.before c.child-at.ensures.behind
-      (λ e. grind (arith, nat_tests))
+  (λ t w. let l = c.loop-at.invariant.0 t w in
+      walk-leads w l.0 c.in-Some.is c.index-node.ensures _ c.child.result c.child.ensures.before c.child.ensures.behind _
+      c.root-at-in-Some.ensures c.loop-at.way c.loop-at.depth l.1 c.loop-at.invariant.1 (λ e. grind (arith, nat_tests))
       (λ e. elim c.else-not-before.branch [
         | else-not-before-via-then-not-before+else-first-node v ↦ v.if-first-node.false
         | else-not-before-via-else-not-before v ↦ let h = v.if-not-before.false in absurd (grind (arith, nat_tests))
@@ -54,6 +44,21 @@ loop-at-preserved c = (
   length-set c.loop-at.way c.loop-at.depth _ ∙ c.loop-at.invariant.1,
 )
 
-pub returns-then-first-node-clause-leads : goal.returns-then-first-node-clause-leads
-returns-then-first-node-clause-leads c t w =
-    subst (λ a. Leads c.loop-at.way c.args.first c.args.last (record { at = a; depth = c.loop-at.depth }) t) c.in-Some.is (c.loop-at.invariant.0 t w)
+pub returns-then-first-node : goal.returns-then-first-node
+returns-then-first-node c t w =
+    let l = subst (λ a. (q : Lies c.args.first c.args.last a t) × AreSteps c.loop-at.way c.loop-at.depth q.path) c.in-Some.is
+    (c.loop-at.invariant.0 t w) in
+    record {
+      lies = l.0;
+      steps = l.1;
+      node = c.index-node.result.now;
+      there = c.index-node.ensures;
+      has = (grind (arith, nat_tests, c.if-not-before.true), c.if-first-node.true);
+    }
+
+pub unreachable-requires : goal.unreachable-requires
+unreachable-requires c =
+    let q = c.requires.tree in
+    let n = found-none q.1 (c.loop-at.invariant.0 q.0 q.1).0 c.requires.pages c.in_default.is in
+    let x : IsSome {T = Piece} None = subst (λ o. IsSome o) (sym n) q.2 in
+    cc

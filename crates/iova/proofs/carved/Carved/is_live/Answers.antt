@@ -1,6 +1,4 @@
-use Rattle.std.proofs.Common.{◌∷◌, [], inl, refl, sym, subst}
-use Rattle.dmatypes.specs.World.{IsIn}
-use Rattle.iova.specs.Pieces.{pages_as}
+use Rattle.iova.proofs.Names.{◌∷◌, [], inl, refl, sym, subst, IsIn, pages_as}
 use Rattle.iova.proofs.Among.{in_append_right}
 use Rattle.iova.proofs.carved.Carved.is_live.Goals as goal
 

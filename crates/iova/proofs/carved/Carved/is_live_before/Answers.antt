@@ -1,7 +1,4 @@
-use Rattle.std.proofs.Common.{ap, sym, ◌∙◌, get_or, subst}
-use Rattle.iova.specs.Carved.{IsAt}
-use Rattle.piece_tree.specs.declared.piece.PageState.TheVariants.{Free}
-use Rattle.piece_tree.specs.declared.piece.Piece.{Piece}
+use Rattle.iova.proofs.Names.{ap, sym, ◌∙◌, get_or, subst, IsAt, Free, Piece}
 use Rattle.iova.proofs.carvings.At.{live_there}
 use Rattle.iova.proofs.carved.Carved.is_live_before.Goals as goal
 

@@ -1,7 +1,4 @@
-use Rattle.std.proofs.Common.{◌∙◌, length, ap, sym, arith}
-use Rattle.std.proofs.Math.ListN.{drop_of_length-le}
-use Rattle.std.proofs.lemmas.Bool.Decides.{nat_tests}
-use Rattle.std.proofs.lemmas.List.{length-drop}
+use Rattle.iova.proofs.Names.{◌∙◌, length, ap, sym, arith, drop_of_length-le, nat_tests, length-drop}
 use Rattle.iova.proofs.chain.Chain.is_empty.Goals as goal
 
 pub returns : goal.returns

@@ -1,7 +1,5 @@
-use Rattle.std.proofs.Common.{◌≡◌, ◌∙◌, ap, subst, sym}
-use Rattle.iova.specs.Pieces.{NoneFreeBelow}
-use Rattle.iova.specs.Space.{IsSpace}
-use Rattle.iova.specs.Stored.{stored}
+use Rattle.iova.proofs.Names.{subst, sym, NoneFreeBelow, IsSpace, stored}
+use Rattle.iova.proofs.parts.Shows.{shows}
 use Rattle.iova.proofs.page_tree.PageTree.find.Goals as goal
 
 pub find-requires-clause-ordered : goal.find-requires-clause-ordered
@@ -9,28 +7,20 @@ find-requires-clause-ordered c = (c.put_freed.ensures.space c.self.inside.last c
 
 pub invariant_of-self : goal.invariant_of-self
 invariant_of-self c =
-    subst (λ l. IsSpace (stored c.self.inside.last l) × NoneFreeBelow c.put_freed.new.low l × Unit {0} × Unit {0}) (sym c.find.ensures.unchanged)
-    (c.put_freed.ensures.space c.self.inside.last c.self.invariant.0, c.put_freed.ensures.low, tt, tt)
+    subst (λ l. IsSpace (stored c.self.inside.last l) × NoneFreeBelow c.put_freed.new.low l × Unit {0} × Unit {0})
+    (sym c.find.ensures.unchanged) (c.put_freed.ensures.space c.self.inside.last c.self.invariant.0, c.put_freed.ensures.low, tt, tt)
 
 pub invariant_of-self-2 : goal.invariant_of-self-2
 invariant_of-self-2 c =
     let sp = c.put_freed.ensures.space c.self.inside.last c.self.invariant.0 in
+    let low = c.low_found-self-inside.ensures c.put_freed.new.tree sp.ordered c.put_freed.ensures.low c.in_ok-found.ensures.lowest in
     subst (λ l. IsSpace (stored c.self.inside.last l) × NoneFreeBelow c.low_found-self-inside.result l × Unit {0} × Unit {0})
-    (sym c.find.ensures.unchanged) (
-      sp,
-      c.low_found-self-inside.ensures c.put_freed.new.tree sp.ordered c.put_freed.ensures.low c.in_ok-found.ensures.lowest,
-      tt,
-      tt,
-    )
+    (sym c.find.ensures.unchanged) (sp, low, tt, tt)
 
 pub returns-in_err-found-clause-space : goal.returns-in_err-found-clause-space
 returns-in_err-found-clause-space c =
-    let view : stored c.self.inside.last c.put_freed.new.tree ≡ c.args.self.now =
-    ap (λ ps. stored c.self.inside.last ps) c.put_freed.ensures.pieces ∙ c.self.view_is in
-    subst (λ v. IsSpace v) view (c.put_freed.ensures.space c.self.inside.last c.self.invariant.0)
+    (shows c.put_freed.ensures.pieces c.self.view_is (c.put_freed.ensures.space c.self.inside.last c.self.invariant.0)).now_space
 
 pub returns-clause-space : goal.returns-clause-space
 returns-clause-space c =
-    let view : stored c.self.inside.last c.put_freed.new.tree ≡ c.args.self.now =
-    ap (λ ps. stored c.self.inside.last ps) c.put_freed.ensures.pieces ∙ c.self.view_is in
-    subst (λ v. IsSpace v) view (c.put_freed.ensures.space c.self.inside.last c.self.invariant.0)
+    (shows c.put_freed.ensures.pieces c.self.view_is (c.put_freed.ensures.space c.self.inside.last c.self.invariant.0)).now_space

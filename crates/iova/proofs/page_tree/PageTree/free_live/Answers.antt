@@ -1,52 +1,33 @@
-use Rattle.std.proofs.Common.{◌≡◌, ◌≤◌, ◌∙◌, Some, refl, ap, subst, sym}
-use Rattle.dmatypes.specs.Page.{Range}
-use Rattle.piece_tree.specs.declared.piece.PageState.{PageState}
-use Rattle.piece_tree.specs.declared.piece.PageState.TheVariants.{Free, Live}
-use Rattle.iova.specs.declared.ends.Ends.{Ends}
-use Rattle.iova.specs.Changes.{FreesLive}
-use Rattle.piece_tree.specs.Freed.{with_free}
-use Rattle.iova.specs.Pieces.{pages_as, piece_of}
-use Rattle.iova.specs.Space.{Space, IsSpace, MayRetire}
-use Rattle.iova.specs.Stored.{shown, stored}
+use Rattle.iova.proofs.Names.{◌≡◌, ℕ, ◌≤◌, ◌∙◌, List, refl, ap, subst, sym, Range, PageState, Free, Live, Ends, Piece, FreesLive, with_free}
+use Rattle.iova.proofs.Names.{pages_as, piece_of, Space, IsSpace, MayRetire, shown, stored}
 use Rattle.iova.proofs.FreedLive.{frees_live, space_freed_live}
 use Rattle.iova.proofs.Known.{none_of}
+use Rattle.iova.proofs.parts.Shows.{Shows, shows}
 use Rattle.iova.proofs.searches.CutAt.{at_in}
 use Rattle.iova.proofs.page_tree.PageTree.free_live.Goals as goal
 
--- the pages of a range come free in a space that is shown as it is
-module _ (a now : Space) (range : Range) (pages : Ends) (state : PageState) (view : a ≡ now) (sp : IsSpace a) (some : 1 ≤ range.pages)
-    (is : pages_as pages state ≡ piece_of range state) (may : MayRetire now.pieces range) where
-  kept : MayRetire a.pieces range
-  kept = subst (λ (v : Space). MayRetire v.pieces range) (sym view) may
+-- the pages of a range come free in a tree with what the space shows
+module _ {last : ℕ} {tree : List Piece} {now : Space} (t : Shows last tree now) {range : Range} {pages : Ends} {state : PageState}
+    (some : 1 ≤ range.pages) (is : pages_as pages state ≡ piece_of range state) (may : MayRetire now.pieces range) where
+  kept : MayRetire tree range
+  kept = subst (λ (v : Space). MayRetire v.pieces range) (sym t.is) may
 
-  comes_free : (new : Space) → new ≡ record a { pieces = with_free (pages_as pages state) a.pieces } → FreesLive now new range
-  comes_free new e =
-      subst (λ v. FreesLive v new range) view
-      (frees_live a range sp some kept new (e ∙ ap (λ p. record a { pieces = with_free p a.pieces }) is))
+  comes_free : {new : Space} → new ≡ stored last (with_free (pages_as pages state) tree) → FreesLive now new range
+  comes_free {new} e = subst (λ v. FreesLive v new range) t.is (frees_live (stored last tree) range t.space some kept new
+      (e ∙ ap (λ p. stored last (with_free p tree)) is))
 
-  stays : IsSpace (record a { pieces = with_free (pages_as pages state) a.pieces })
-  stays = subst (λ p. IsSpace (record a { pieces = with_free p a.pieces })) (sym is) (space_freed_live a range sp some kept)
+  stays : IsSpace now × IsSpace (stored last (with_free (pages_as pages state) tree))
+  stays = (
+    t.now_space,
+    subst (λ p. IsSpace (stored last (with_free p tree))) (sym is) (space_freed_live (stored last tree) range t.space some kept),
+  )
 
-pub returns-then-are-clause-freed : goal.returns-then-are-clause-freed
-returns-then-are-clause-freed c =
-    let s = c.self.inside in
-    let a : Space = stored s.last s.tree in
-    let none = none_of s.freed c.is_none.ensures c.if-is_none.true in
-    let view : a ≡ c.args.self.now = ap (λ f. stored s.last (shown f s.tree)) (sym none) ∙ c.self.view_is in
+pub returns-then-are : goal.returns-then-are
+returns-then-are c =
+    let none = none_of c.self.inside.freed c.is_none.ensures c.if-is_none.true in
+    let t = shows (ap (λ f. shown f c.self.inside.tree) (sym none)) c.self.view_is c.self.invariant.0 in
     let e = c.ends_of-pages.ensures in
-    comes_free a c.args.self.now c.args.range c.ends_of-pages.result Live view c.self.invariant.0 e.range.some (e.piece Live) c.requires
-    (stored s.last (shown (Some c.ends_of-pages.result) s.tree)) refl
-
-pub returns-then-are-clause-space : goal.returns-then-are-clause-space
-returns-then-are-clause-space c =
-    let s = c.self.inside in
-    let a : Space = stored s.last s.tree in
-    let none = none_of s.freed c.is_none.ensures c.if-is_none.true in
-    let view : a ≡ c.args.self.now = ap (λ f. stored s.last (shown f s.tree)) (sym none) ∙ c.self.view_is in
-    let e = c.ends_of-pages.ensures in (
-      subst (λ v. IsSpace v) view c.self.invariant.0,
-      stays a c.args.self.now c.args.range c.ends_of-pages.result Live view c.self.invariant.0 e.range.some (e.piece Live) c.requires,
-    )
+    let is = e.piece Live in record { freed = comes_free t e.range.some is c.requires refl; space = stays t e.range.some is c.requires }
 
 pub invariant_of-self-then-is_live : goal.invariant_of-self-then-is_live
 invariant_of-self-then-is_live c =
@@ -54,28 +35,11 @@ invariant_of-self-then-is_live c =
     let there = (at_in c.put_freed.new.tree pages.first (pages_as pages Live) (c.is_live.ensures.0 c.if-is_live.true)).0 in
     (c.put_freed.ensures.space c.self.inside.last c.self.invariant.0, c.put_freed.ensures.low, there, tt)
 
-pub returns-then-is_live-clause-freed : goal.returns-then-is_live-clause-freed
-returns-then-is_live-clause-freed c =
-    let last = c.self.inside.last in
-    let a : Space = stored last c.put_freed.new.tree in
-    let sp : IsSpace a = c.put_freed.ensures.space last c.self.invariant.0 in
-    let view : a ≡ c.args.self.now = ap (λ ps. stored last ps) c.put_freed.ensures.pieces ∙ c.self.view_is in
-    let pages = c.ends_of-pages.result in
+pub returns-then-is_live : goal.returns-then-is_live
+returns-then-is_live c =
+    let t = shows c.put_freed.ensures.pieces c.self.view_is (c.put_freed.ensures.space c.self.inside.last c.self.invariant.0) in
     let e = c.ends_of-pages.ensures in
-    comes_free a c.args.self.now c.args.range pages Live view sp e.range.some (e.piece Live) c.requires
-    (stored last (shown (Some pages) c.put_freed.new.tree)) refl
-
-pub returns-then-is_live-clause-space : goal.returns-then-is_live-clause-space
-returns-then-is_live-clause-space c =
-    let last = c.self.inside.last in
-    let a : Space = stored last c.put_freed.new.tree in
-    let sp : IsSpace a = c.put_freed.ensures.space last c.self.invariant.0 in
-    let view : a ≡ c.args.self.now = ap (λ ps. stored last ps) c.put_freed.ensures.pieces ∙ c.self.view_is in
-    let pages = c.ends_of-pages.result in
-    let e = c.ends_of-pages.ensures in (
-      subst (λ v. IsSpace v) view sp,
-      stays a c.args.self.now c.args.range pages Live view sp e.range.some (e.piece Live) c.requires,
-    )
+    let is = e.piece Live in record { freed = comes_free t e.range.some is c.requires refl; space = stays t e.range.some is c.requires }
 
 pub invariant_of-self-else-is_live : goal.invariant_of-self-else-is_live
 invariant_of-self-else-is_live c =
@@ -83,21 +47,10 @@ invariant_of-self-else-is_live c =
 
 pub free-requires-clause-space : goal.free-requires-clause-space
 free-requires-clause-space c _ =
-    let last = c.self.inside.last in
-    let a : Space = stored last c.put_freed.new.tree in
-    let sp : IsSpace a = c.put_freed.ensures.space last c.self.invariant.0 in
-    let view : a ≡ c.args.self.now = ap (λ ps. stored last ps) c.put_freed.ensures.pieces ∙ c.self.view_is in
-    let pages = c.ends_of-pages.result in
-    let e = c.ends_of-pages.ensures in
-    stays a c.args.self.now c.args.range pages Free view sp e.range.some (e.piece Free) c.requires
+    let t = shows c.put_freed.ensures.pieces c.self.view_is (c.put_freed.ensures.space c.self.inside.last c.self.invariant.0) in
+    (stays t c.ends_of-pages.ensures.range.some (c.ends_of-pages.ensures.piece Free) c.requires).1
 
 pub returns-clause-freed : goal.returns-clause-freed
 returns-clause-freed c =
-    let last = c.self.inside.last in
-    let a : Space = stored last c.put_freed.new.tree in
-    let sp : IsSpace a = c.put_freed.ensures.space last c.self.invariant.0 in
-    let view : a ≡ c.args.self.now = ap (λ ps. stored last ps) c.put_freed.ensures.pieces ∙ c.self.view_is in
-    let pages = c.ends_of-pages.result in
-    let e = c.ends_of-pages.ensures in
-    comes_free a c.args.self.now c.args.range pages Free view sp e.range.some (e.piece Free) c.requires c.free.new.self
-    c.free.ensures.is
+    let t = shows c.put_freed.ensures.pieces c.self.view_is (c.put_freed.ensures.space c.self.inside.last c.self.invariant.0) in
+    comes_free t c.ends_of-pages.ensures.range.some (c.ends_of-pages.ensures.piece Free) c.requires c.free.ensures.is

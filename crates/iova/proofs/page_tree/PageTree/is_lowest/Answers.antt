@@ -1,8 +1,4 @@
-use Rattle.std.proofs.lemmas.Bool.{leb-true}
-use Rattle.std.proofs.Common.{◌≡◌, ◌∙◌, ap, sym, subst, arith}
-use Rattle.dmatypes.specs.World.{IsIn}
-use Rattle.iova.specs.Space.{Space}
-use Rattle.iova.specs.Stored.{shown}
+use Rattle.iova.proofs.Names.{leb-true, ◌≡◌, ◌∙◌, ap, sym, subst, arith, IsIn, Space, shown}
 use Rattle.iova.proofs.Known.{none_of}
 use Rattle.iova.proofs.page_tree.PageTree.is_lowest.Goals as goal
 

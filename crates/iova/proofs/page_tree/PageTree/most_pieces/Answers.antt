@@ -1,5 +1,4 @@
-use Rattle.std.proofs.Common.{length, ap, arith}
-use Rattle.iova.specs.Space.{Space}
+use Rattle.iova.proofs.Names.{length, ap, arith, Space}
 use Rattle.iova.proofs.Shown.{few_shown}
 use Rattle.iova.proofs.page_tree.PageTree.most_pieces.Goals as goal
 

@@ -1,4 +1,4 @@
-use Rattle.std.proofs.Common.{arith}
+use Rattle.iova.proofs.Names.{arith}
 use Rattle.iova.proofs.Shown.{space_shown}
 use Rattle.iova.proofs.page_tree.PageTree.piece_count.Goals as goal
 

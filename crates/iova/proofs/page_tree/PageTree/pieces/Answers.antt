@@ -1,10 +1,5 @@
-use Rattle.std.proofs.Common.{arith, ◌∙◌, List, Option, Some, None, IfSome, ap, inl, subst, sym}
-use Rattle.iova.specs.declared.ends.Ends.{Ends}
-use Rattle.piece_tree.specs.declared.piece.PageState.TheVariants.{Free}
-use Rattle.piece_tree.specs.declared.piece.Piece.{Piece}
-use Rattle.iova.specs.Pieces.{IsOrdered, pages_as}
-use Rattle.iova.specs.Space.{IsSpace, Space}
-use Rattle.iova.specs.Stored.{IsFirstOrNone, stored, with_freed}
+use Rattle.iova.proofs.Names.{arith, ◌∙◌, List, Option, Some, None, IfSome, ap, inl, subst, sym, Ends, Free, Piece, IsOrdered, pages_as}
+use Rattle.iova.proofs.Names.{IsSpace, Space, IsFirstOrNone, stored, with_freed}
 use Rattle.iova.proofs.Among.{in_le, put_piece}
 use Rattle.iova.proofs.Shown.{space_shown}
 use Rattle.iova.proofs.Sorted.{space_sorted}
@@ -31,14 +26,13 @@ invariant_of-result c =
       outside = first_page c.freed_ends.result a.tree ordered;
     }
 
-pub returns-clause-pieces : goal.returns-clause-pieces
-returns-clause-pieces c =
+pub returns : goal.returns
+returns c =
     let a = c.self.inside in
     let sp = space_shown a.last a.tree c.self.invariant.0 a.freed c.self.invariant.2 in
-    from_all 1 1 (with_freed c.freed_ends.result a.tree) (subst (λ l. IsOrdered 1 l) c.freed_ends.ensures.shown sp.ordered) (omega arith)
-    ∙ sym c.freed_ends.ensures.shown ∙ ap (λ (v : Space). v.pieces) c.self.view_is
-
-pub returns-clause-space : goal.returns-clause-space
-returns-clause-space c =
-    let a = c.self.inside in
-    subst (λ v. IsSpace v) c.self.view_is (space_shown a.last a.tree c.self.invariant.0 a.freed c.self.invariant.2)
+    let ordered = subst (λ l. IsOrdered 1 l) c.freed_ends.ensures.shown sp.ordered in
+    let all = from_all 1 1 (with_freed c.freed_ends.result a.tree) ordered (omega arith) in
+    record {
+      pieces = all ∙ sym c.freed_ends.ensures.shown ∙ ap (λ (v : Space). v.pieces) c.self.view_is;
+      space = subst (λ v. IsSpace v) c.self.view_is sp;
+    }

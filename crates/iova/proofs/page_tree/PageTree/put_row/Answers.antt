@@ -1,80 +1,55 @@
-use Rattle.std.proofs.Common.{◌≡◌, ◌∙◌, ◌+◌, ◌<◌, max, inl, inr, ap, subst, sym, arith}
-use Rattle.piece_tree.specs.declared.piece.Piece.{Piece}
-use Rattle.piece_tree.specs.declared.piece.TheConstants.{NUMBERS_END}
-use Rattle.iova.specs.declared.carved.Stock.{Stock}
-use Rattle.iova.specs.Carved.{AreCarved, with_carved, with_pieces}
-use Rattle.iova.specs.Pieces.{NoneFreeBelow}
-use Rattle.iova.specs.Space.{Space, IsSpace}
-use Rattle.iova.specs.Stored.{stored}
-use Rattle.iova.proofs.carvings.Row.{none_below_carved, none_below_row, one_row}
+use Rattle.iova.proofs.Names.{◌∙◌, ℕ, ◌+◌, ◌<◌, ◌≤◌, max, List, inl, inr, ap, subst, sym, arith, Piece, NUMBERS_END, Stock, Ends, AreCarved}
+use Rattle.iova.proofs.Names.{FollowOn, with_carved, NoneFreeBelow, Space, IsSpace, stored}
+use Rattle.iova.proofs.carvings.Row.{IsOneRow, none_below_carved, none_below_row, one_row}
 use Rattle.iova.proofs.carvings.State.{carved_space}
+use Rattle.iova.proofs.parts.Shows.{Shows, shows}
 use Rattle.iova.proofs.page_tree.PageTree.put_row.Goals as goal
+
+-- the row, in the tree with what the space shows
+row_in : {last : ℕ} {tree row : List Piece} {now : Space} → Shows last tree now → (stock : Stock) × AreCarved now.pieces row stock
+    → (pages : Ends) → FollowOn pages.first row (pages.last + 1) × (pages.first ≤ pages.last) → IsOneRow (stored last tree) row pages
+row_in {last} {tree} {row} t carved pages w =
+    one_row (stored last tree) row carved.0 pages t.space
+    (subst (λ (v : Space). AreCarved v.pieces row carved.0) (sym t.is) carved.1) w.0 w.1
 
 pub low_behind-self-inside-requires-clause-narrow : goal.low_behind-self-inside-requires-clause-narrow
 low_behind-self-inside-requires-clause-narrow c =
-    let a : Space = stored c.self.inside.last c.put_freed.new.tree in
-    let sp : IsSpace a = c.put_freed.ensures.space c.self.inside.last c.self.invariant.0 in
-    let view : a ≡ c.args.self.now = ap (λ ps. stored c.self.inside.last ps) c.put_freed.ensures.pieces ∙ c.self.view_is in
-    let stock : Stock = c.requires.carved.0 in
-    let k = subst (λ (v : Space). AreCarved v.pieces c.args.row.now stock) (sym view) c.requires.carved.1 in
-    let r = one_row a c.args.row.now stock c.args.pages sp k c.requires.pages.0 c.requires.pages.1 in
-    subst (λ (p : Piece). p.last < NUMBERS_END) (sym c.in_state.ensures) r.narrow
+    let t = shows c.put_freed.ensures.pieces c.self.view_is (c.put_freed.ensures.space c.self.inside.last c.self.invariant.0) in
+    subst (λ (p : Piece). p.last < NUMBERS_END) (sym c.in_state.ensures) (row_in t c.requires.carved c.args.pages c.requires.pages).narrow
 
 pub lay_row-requires : goal.lay_row-requires
 lay_row-requires c =
-    let a : Space = stored c.self.inside.last c.put_freed.new.tree in
-    let sp : IsSpace a = c.put_freed.ensures.space c.self.inside.last c.self.invariant.0 in
-    let view : a ≡ c.args.self.now = ap (λ ps. stored c.self.inside.last ps) c.put_freed.ensures.pieces ∙ c.self.view_is in
-    let stock : Stock = c.requires.carved.0 in
-    let k = subst (λ (v : Space). AreCarved v.pieces c.args.row.now stock) (sym view) c.requires.carved.1 in
-    let r = one_row a c.args.row.now stock c.args.pages sp k c.requires.pages.0 c.requires.pages.1 in
+    let t = shows c.put_freed.ensures.pieces c.self.view_is (c.put_freed.ensures.space c.self.inside.last c.self.invariant.0) in
+    let r = row_in t c.requires.carved c.args.pages c.requires.pages in
     record { inside = (c.args.pages.first, c.args.pages.last, r.there, c.requires.pages.1, r.follows, r.at, r.inside, r.few) }
 
 pub invariant_of-self : goal.invariant_of-self
 invariant_of-self c =
-    let a : Space = stored c.self.inside.last c.put_freed.new.tree in
-    let sp : IsSpace a = c.put_freed.ensures.space c.self.inside.last c.self.invariant.0 in
-    let view : a ≡ c.args.self.now = ap (λ ps. stored c.self.inside.last ps) c.put_freed.ensures.pieces ∙ c.self.view_is in
-    let stock : Stock = c.requires.carved.0 in
-    let k = subst (λ (v : Space). AreCarved v.pieces c.args.row.now stock) (sym view) c.requires.carved.1 in
-    let r = one_row a c.args.row.now stock c.args.pages sp k c.requires.pages.0 c.requires.pages.1 in
-    let now = c.lay_row.ensures c.args.pages.first c.args.pages.last c.requires.pages.1 r.follows ∙ r.same in
+    let t = shows c.put_freed.ensures.pieces c.self.view_is (c.put_freed.ensures.space c.self.inside.last c.self.invariant.0) in
+    let r = row_in t c.requires.carved c.args.pages c.requires.pages in
+    let low = c.low_behind-self-inside in
+    let is = c.lay_row.ensures c.args.pages.first c.args.pages.last c.requires.pages.1 r.follows ∙ r.same in
+    let view : Space = with_carved c.args.row.now (stored c.self.inside.last c.put_freed.new.tree) in
     let first = ap (λ (p : Piece). p.first) c.in_state.ensures in
     let last = ap (λ (p : Piece). p.last) c.in_state.ensures in
-    subst (λ l. IsSpace (stored c.self.inside.last l) × NoneFreeBelow c.low_behind-self-inside.result l × Unit {0} × Unit {0}) (sym now) (
-      carved_space a r.there.first r.there.last c.args.row.now c.args.pages.first (c.args.pages.last + 1) r.stands,
-      elim c.low_behind-self-inside.ensures.is [
-        | inl h ↦ subst (λ n. NoneFreeBelow n (with_pieces c.args.row.now a.pieces))
-            (sym (h.1 ∙ ap (λ n. max c.put_freed.new.low (n + 1)) last))
-            (none_below_row c.put_freed.new.low a r.there.first r.there.last c.args.row.now c.args.pages.first (c.args.pages.last + 1)
-            r.stands c.put_freed.ensures.low (omega (arith, h.0, first)))
-        | inr h ↦ subst (λ n. NoneFreeBelow n (with_pieces c.args.row.now a.pieces)) (sym h.1)
-            (none_below_carved c.put_freed.new.low a r.there.first r.there.last c.args.row.now c.args.pages.first
-            (c.args.pages.last + 1) r.stands c.put_freed.ensures.low)
+    subst (λ l. IsSpace (stored c.self.inside.last l) × NoneFreeBelow low.result l × Unit {0} × Unit {0}) (sym is) (
+      carved_space r.stands,
+      elim low.ensures.is [
+        | inl h ↦ subst (λ n. NoneFreeBelow n view.pieces) (sym (h.1 ∙ ap (λ n. max c.put_freed.new.low (n + 1)) last))
+            (none_below_row r.stands c.put_freed.new.low c.put_freed.ensures.low (omega (arith, h.0, first)))
+        | inr h ↦ subst (λ n. NoneFreeBelow n view.pieces) (sym h.1)
+            (none_below_carved r.stands c.put_freed.new.low c.put_freed.ensures.low)
       ],
       tt,
       tt,
     )
 
-pub returns-clause-is : goal.returns-clause-is
-returns-clause-is c =
-    let a : Space = stored c.self.inside.last c.put_freed.new.tree in
-    let sp : IsSpace a = c.put_freed.ensures.space c.self.inside.last c.self.invariant.0 in
-    let view : a ≡ c.args.self.now = ap (λ ps. stored c.self.inside.last ps) c.put_freed.ensures.pieces ∙ c.self.view_is in
-    let stock : Stock = c.requires.carved.0 in
-    let k = subst (λ (v : Space). AreCarved v.pieces c.args.row.now stock) (sym view) c.requires.carved.1 in
-    let r = one_row a c.args.row.now stock c.args.pages sp k c.requires.pages.0 c.requires.pages.1 in
-    ap (λ l. stored c.self.inside.last l) (c.lay_row.ensures c.args.pages.first c.args.pages.last c.requires.pages.1 r.follows ∙ r.same)
-    ∙ ap (λ (v : Space). with_carved c.args.row.now v) view
-
-pub returns-clause-space : goal.returns-clause-space
-returns-clause-space c =
-    let a : Space = stored c.self.inside.last c.put_freed.new.tree in
-    let sp : IsSpace a = c.put_freed.ensures.space c.self.inside.last c.self.invariant.0 in
-    let view : a ≡ c.args.self.now = ap (λ ps. stored c.self.inside.last ps) c.put_freed.ensures.pieces ∙ c.self.view_is in
-    let stock : Stock = c.requires.carved.0 in
-    let k = subst (λ (v : Space). AreCarved v.pieces c.args.row.now stock) (sym view) c.requires.carved.1 in
-    let r = one_row a c.args.row.now stock c.args.pages sp k c.requires.pages.0 c.requires.pages.1 in
-    subst (λ l. IsSpace (stored c.self.inside.last l))
-    (sym (c.lay_row.ensures c.args.pages.first c.args.pages.last c.requires.pages.1 r.follows ∙ r.same))
-    (carved_space a r.there.first r.there.last c.args.row.now c.args.pages.first (c.args.pages.last + 1) r.stands)
+pub returns : goal.returns
+returns c =
+    let t = shows c.put_freed.ensures.pieces c.self.view_is (c.put_freed.ensures.space c.self.inside.last c.self.invariant.0) in
+    let r = row_in t c.requires.carved c.args.pages c.requires.pages in
+    let is = c.lay_row.ensures c.args.pages.first c.args.pages.last c.requires.pages.1 r.follows ∙ r.same in
+    record {
+      is = ap (λ l. stored c.self.inside.last l) is ∙ ap (λ (v : Space). with_carved c.args.row.now v) t.is;
+      space = subst (λ l. IsSpace (stored c.self.inside.last l)) (sym is) (carved_space r.stands);
+    }

@@ -1,92 +1,64 @@
-use Rattle.std.proofs.Common.{arith, ◌≡◌, ◌∙◌, ◌≤◌, ◌+◌, ◌-◌, IsSome, length, ap, subst, sym}
-use Rattle.piece_tree.specs.declared.piece.Piece.{Piece}
-use Rattle.piece_tree.specs.declared.piece.PageState.TheVariants.{Retired}
-use Rattle.piece_tree.specs.declared.piece.TheConstants.{MOST_PIECES}
-use Rattle.piece_tree.specs.Laid.{with_piece}
-use Rattle.piece_tree.specs.Pieces.{piece_at}
-use Rattle.iova.specs.Changes.{Retires}
-use Rattle.iova.specs.Pieces.{NoneFreeBelow, piece_of}
-use Rattle.iova.specs.Space.{Space, IsSpace, MayRetire}
-use Rattle.iova.specs.Stored.{stored}
+use Rattle.iova.proofs.Names.{arith, ℕ, List, refl, ◌≡◌, ◌∙◌, ◌≤◌, IsSome, ap, subst, sym, Piece, Retired, with_piece, piece_at, Retires}
+use Rattle.iova.proofs.Names.{NoneFreeBelow, piece_of, Space, IsSpace, MayRetire, stored, Range}
 use Rattle.iova.proofs.LowestFree.{none_below_put}
+use Rattle.iova.proofs.parts.Shows.{Shows, shows}
 use Rattle.iova.proofs.Partition.{put_lies}
 use Rattle.iova.proofs.Taken.{retires, space_retired}
 use Rattle.iova.proofs.page_tree.PageTree.retire.Goals as goal
 
-pub lay-requires-clause-first : goal.lay-requires-clause-first
-lay-requires-clause-first c =
-    let a : Space = stored c.self.inside.last c.put_freed.new.tree in
-    let sp : IsSpace a = c.put_freed.ensures.space c.self.inside.last c.self.invariant.0 in
-    let view : a ≡ c.args.self.now = ap (λ ps. stored c.self.inside.last ps) c.put_freed.ensures.pieces ∙ c.self.view_is in
-    let some = c.ends_of.ensures.range.some in
-    let may : MayRetire a.pieces c.args.range = subst (λ (v : Space). MayRetire v.pieces c.args.range) (sym view) c.requires in
-    let is = c.in_state.ensures ∙ c.ends_of.ensures.piece Retired in
-    subst (λ (p : Piece). IsSome (piece_at a.pieces p.first)) (sym is)
-    (put_lies a sp (piece_of c.args.range Retired) (space_retired a c.args.range sp some may) (omega (arith, some)) c.args.range.first
-    (omega arith) (omega (arith, some)))
+-- the pages of a range become one piece in a tree with what the space shows
+record Laid (last : ℕ) (tree : List Piece) (now : Space) (range : Range) (p : Piece) : Type 0 where
+  some : p.first ≤ p.last
+  space : IsSpace (stored last (with_piece p tree))
+  lies : (page : ℕ) → p.first ≤ page → page ≤ p.last → IsSome (piece_at tree page)
+  retires : Retires now (stored last (with_piece p tree)) range
 
-pub lay-requires-clause-last : goal.lay-requires-clause-last
-lay-requires-clause-last c =
-    let a : Space = stored c.self.inside.last c.put_freed.new.tree in
-    let sp : IsSpace a = c.put_freed.ensures.space c.self.inside.last c.self.invariant.0 in
-    let view : a ≡ c.args.self.now = ap (λ ps. stored c.self.inside.last ps) c.put_freed.ensures.pieces ∙ c.self.view_is in
-    let some = c.ends_of.ensures.range.some in
-    let may : MayRetire a.pieces c.args.range = subst (λ (v : Space). MayRetire v.pieces c.args.range) (sym view) c.requires in
-    let is = c.in_state.ensures ∙ c.ends_of.ensures.piece Retired in
-    subst (λ (p : Piece). IsSome (piece_at a.pieces p.last)) (sym is)
-    (put_lies a sp (piece_of c.args.range Retired) (space_retired a c.args.range sp some may) (omega (arith, some))
-    (c.args.range.first + c.args.range.pages - 1) (omega (arith, some)) (omega arith))
+laid : {last : ℕ} {tree : List Piece} {now : Space} {range : Range} {p : Piece} → Shows last tree now → MayRetire now.pieces range
+    → 1 ≤ range.pages → p ≡ piece_of range Retired → Laid last tree now range p
+laid {last} {tree} {now} {range} t may some is =
+    let a : Space = stored last tree in
+    let kept : MayRetire tree range = subst (λ (v : Space). MayRetire v.pieces range) (sym t.is) may in
+    let q : Piece = piece_of range Retired in
+    let space = space_retired a range t.space some kept in
+    subst (λ p. Laid last tree now range p) (sym is) (record {
+      some = omega arith;
+      space = space;
+      lies = put_lies a t.space q space (omega arith);
+      retires = subst (λ v. Retires v (stored last (with_piece q tree)) range) t.is
+          (retires a (stored last (with_piece q tree)) range t.space some kept.live refl);
+    })
 
-pub lay-requires-clause-some : goal.lay-requires-clause-some
-lay-requires-clause-some c =
-    let some = c.ends_of.ensures.range.some in
-    subst (λ (p : Piece). p.first ≤ p.last) (sym (c.in_state.ensures ∙ c.ends_of.ensures.piece Retired)) (omega (arith, some))
-
-pub lay-requires-clause-room : goal.lay-requires-clause-room
-lay-requires-clause-room c =
-    let a : Space = stored c.self.inside.last c.put_freed.new.tree in
-    let sp : IsSpace a = c.put_freed.ensures.space c.self.inside.last c.self.invariant.0 in
-    let view : a ≡ c.args.self.now = ap (λ ps. stored c.self.inside.last ps) c.put_freed.ensures.pieces ∙ c.self.view_is in
-    let some = c.ends_of.ensures.range.some in
-    let may : MayRetire a.pieces c.args.range = subst (λ (v : Space). MayRetire v.pieces c.args.range) (sym view) c.requires in
-    subst (λ (p : Piece). length (with_piece p a.pieces) ≤ MOST_PIECES) (sym (c.in_state.ensures ∙ c.ends_of.ensures.piece Retired))
-    (space_retired a c.args.range sp some may).few
+pub lay-requires : goal.lay-requires
+lay-requires c =
+    let t = shows c.put_freed.ensures.pieces c.self.view_is (c.put_freed.ensures.space c.self.inside.last c.self.invariant.0) in
+    let l = laid t c.requires c.ends_of.ensures.range.some (c.in_state.ensures ∙ c.ends_of.ensures.piece Retired) in
+    record {
+      first = l.lies c.in_state.result.first (omega arith) l.some;
+      last = l.lies c.in_state.result.last l.some (omega arith);
+      some = l.some;
+      room = l.space.few;
+    }
 
 pub invariant_of-self : goal.invariant_of-self
 invariant_of-self c =
-    let a : Space = stored c.self.inside.last c.put_freed.new.tree in
-    let sp : IsSpace a = c.put_freed.ensures.space c.self.inside.last c.self.invariant.0 in
-    let view : a ≡ c.args.self.now = ap (λ ps. stored c.self.inside.last ps) c.put_freed.ensures.pieces ∙ c.self.view_is in
-    let some = c.ends_of.ensures.range.some in
-    let may : MayRetire a.pieces c.args.range = subst (λ (v : Space). MayRetire v.pieces c.args.range) (sym view) c.requires in
-    let now = c.lay.ensures ∙ ap (λ p. with_piece p a.pieces) (c.in_state.ensures ∙ c.ends_of.ensures.piece Retired) in
-    subst (λ l. IsSpace (stored c.self.inside.last l) × NoneFreeBelow c.put_freed.new.low l × Unit {0} × Unit {0}) (sym now) (
-      space_retired a c.args.range sp some may,
-      none_below_put c.put_freed.new.low c.args.range.first (c.args.range.first + c.args.range.pages - 1) Retired a.pieces sp.ordered
-          (omega (arith, some)) c.put_freed.ensures.low (λ e. absurd (cc)),
+    let t = shows c.put_freed.ensures.pieces c.self.view_is (c.put_freed.ensures.space c.self.inside.last c.self.invariant.0) in
+    let l = laid t c.requires c.ends_of.ensures.range.some (c.in_state.ensures ∙ c.ends_of.ensures.piece Retired) in
+    let used = ap (λ (p : Piece). p.state) c.in_state.ensures in
+    let p = c.in_state.result in
+    subst (λ l. IsSpace (stored c.self.inside.last l) × NoneFreeBelow c.put_freed.new.low l × Unit {0} × Unit {0}) (sym c.lay.ensures) (
+      l.space,
+      none_below_put c.put_freed.new.low p.first p.last p.state c.put_freed.new.tree t.space.ordered l.some c.put_freed.ensures.low
+          (λ e. absurd (cc)),
       tt,
       tt,
     )
 
-pub returns-clause-retired : goal.returns-clause-retired
-returns-clause-retired c =
-    let a : Space = stored c.self.inside.last c.put_freed.new.tree in
-    let sp : IsSpace a = c.put_freed.ensures.space c.self.inside.last c.self.invariant.0 in
-    let view : a ≡ c.args.self.now = ap (λ ps. stored c.self.inside.last ps) c.put_freed.ensures.pieces ∙ c.self.view_is in
-    let some = c.ends_of.ensures.range.some in
-    let may : MayRetire a.pieces c.args.range = subst (λ (v : Space). MayRetire v.pieces c.args.range) (sym view) c.requires in
-    let now = c.lay.ensures ∙ ap (λ p. with_piece p a.pieces) (c.in_state.ensures ∙ c.ends_of.ensures.piece Retired) in
-    subst (λ v. Retires v (stored c.self.inside.last c.lay.new.self) c.args.range) view
-    (retires a (stored c.self.inside.last c.lay.new.self) c.args.range sp some may.live (ap (λ l. stored c.self.inside.last l) now))
-
-pub returns-clause-space : goal.returns-clause-space
-returns-clause-space c =
-    let a : Space = stored c.self.inside.last c.put_freed.new.tree in
-    let sp : IsSpace a = c.put_freed.ensures.space c.self.inside.last c.self.invariant.0 in
-    let view : a ≡ c.args.self.now = ap (λ ps. stored c.self.inside.last ps) c.put_freed.ensures.pieces ∙ c.self.view_is in
-    let some = c.ends_of.ensures.range.some in
-    let may : MayRetire a.pieces c.args.range = subst (λ (v : Space). MayRetire v.pieces c.args.range) (sym view) c.requires in
-    let now = c.lay.ensures ∙ ap (λ p. with_piece p a.pieces) (c.in_state.ensures ∙ c.ends_of.ensures.piece Retired) in (
-      subst (λ v. IsSpace v) view sp,
-      subst (λ l. IsSpace (stored c.self.inside.last l)) (sym now) (space_retired a c.args.range sp some may),
-    )
+pub returns : goal.returns
+returns c =
+    let t = shows c.put_freed.ensures.pieces c.self.view_is (c.put_freed.ensures.space c.self.inside.last c.self.invariant.0) in
+    let l = laid t c.requires c.ends_of.ensures.range.some (c.in_state.ensures ∙ c.ends_of.ensures.piece Retired) in
+    let is = ap (λ l. stored c.self.inside.last l) (sym c.lay.ensures) in
+    record {
+      retired = subst (λ v. Retires c.args.self.now v c.args.range) is l.retires;
+      space = (t.now_space, subst (λ v. IsSpace v) is l.space);
+    }

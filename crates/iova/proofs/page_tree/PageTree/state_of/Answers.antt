@@ -1,7 +1,4 @@
-use Rattle.std.proofs.Common.{◌≡◌, ◌∙◌, ◌≤◌, IsSome, ap, subst, sym}
-use Rattle.iova.specs.Pieces.{state_at}
-use Rattle.iova.specs.Space.{Space}
-use Rattle.iova.specs.Stored.{shown}
+use Rattle.iova.proofs.Names.{◌≡◌, ◌∙◌, ◌≤◌, IsSome, ap, subst, sym, state_at, Space, shown}
 use Rattle.iova.proofs.Shown.{space_shown}
 use Rattle.iova.proofs.page_tree.PageTree.state_of.Goals as goal
 

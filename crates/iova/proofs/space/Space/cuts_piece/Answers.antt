@@ -1,5 +1,4 @@
-use Rattle.std.proofs.Common.{◌≡◌, ◌+◌, ◌-◌, Option, Some, IfSome, subst, arith}
-use Rattle.piece_tree.specs.declared.piece.Piece.{Piece}
+use Rattle.iova.proofs.Names.{◌≡◌, ◌+◌, ◌-◌, Option, Some, IfSome, subst, arith, Piece}
 use Rattle.iova.proofs.searches.CutAt.{cut_by_first, cut_by_last}
 use Rattle.iova.proofs.space.Space.cuts_piece.Goals as goal
 

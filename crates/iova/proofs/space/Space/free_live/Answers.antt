@@ -1,5 +1,4 @@
-use Rattle.std.proofs.Common.{sym, subst}
-use Rattle.iova.specs.Carved.{IsCarved}
+use Rattle.iova.proofs.Names.{sym, subst, IsCarved}
 use Rattle.iova.proofs.carvings.Ends.{EndFreed, end_freed_in}
 use Rattle.iova.proofs.space.Space.free_live.Goals as goal
 use Rattle.iova.proofs.space.Space.free_live.Goals.{Then-give_back}

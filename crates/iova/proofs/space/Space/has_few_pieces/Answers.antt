@@ -1,5 +1,4 @@
-use Rattle.std.proofs.Common.{length, ap, refl, arith}
-use Rattle.iova.specs.Space.{Space}
+use Rattle.iova.proofs.Names.{length, ap, refl, arith, Space}
 use Rattle.iova.proofs.carvings.Counts.{few_carved}
 use Rattle.iova.proofs.space.Space.has_few_pieces.Goals as goal
 

@@ -1,7 +1,7 @@
-use Rattle.std.proofs.Common.{◌∙◌, Some, inl, inr, ap, arith}
+use Rattle.iova.proofs.Names.{◌∙◌, Some, inl, inr, ap, arith}
 use Rattle.iova.proofs.Among.{in_state}
 use Rattle.iova.proofs.Pieces.{order}
-use Rattle.iova.proofs.Shown.{in_narrow}
+use Rattle.iova.proofs.Keep.{in_narrow}
 use Rattle.iova.proofs.space.Space.not_live.Goals as goal
 
 pub overflow_add-next : goal.overflow_add-next

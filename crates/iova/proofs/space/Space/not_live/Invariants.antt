@@ -1,6 +1,4 @@
-use Rattle.std.proofs.Common.{◌≡◌, ℕ, ◌-◌, ◌<◌, ◌≤◌, Some}
-use Rattle.piece_tree.specs.declared.piece.PageState.TheVariants.{Live}
-use Rattle.iova.specs.Pieces.{state_at}
+use Rattle.iova.proofs.Names.{◌≡◌, ℕ, ◌-◌, ◌<◌, ◌≤◌, Some, Live, state_at}
 use Rattle.iova.proofs.space.Space.not_live.Given as goal
 
 -- all pages up to the next one are live

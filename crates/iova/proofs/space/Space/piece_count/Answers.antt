@@ -1,5 +1,4 @@
-use Rattle.std.proofs.Common.{length, ap, arith}
-use Rattle.iova.specs.Space.{Space}
+use Rattle.iova.proofs.Names.{length, ap, arith, Space}
 use Rattle.iova.proofs.space.Space.piece_count.Goals as goal
 
 pub returns-clause-count : goal.returns-clause-count

@@ -1,11 +1,5 @@
-use Rattle.std.proofs.Common.{◌≡◌, ℕ, List, [], ◌∷◌, ◌++◌, ◌==◌, Bool, true, false, if◌then◌else◌, Option, None, length}
-use Rattle.std.proofs.Common.{◌∙◌, refl, ap, subst, sym, arith}
-use Rattle.std.proofs.lemmas.Bool.Decides.{nat_tests}
-use Rattle.iova.specs.declared.ends.Ends.{Ends}
-use Rattle.iova.specs.declared.carved.Parts.{Parts}
-use Rattle.piece_tree.specs.declared.piece.Piece.{Piece}
-use Rattle.iova.specs.Carved.{free_of, in_place_of, with_carved, with_pieces}
-use Rattle.iova.specs.Space.{Space, IsSpace}
+use Rattle.iova.proofs.Names.{◌≡◌, ℕ, List, [], ◌∷◌, ◌++◌, ◌==◌, Bool, false, if◌then◌else◌, Option, None, length, ◌∙◌, refl, ap, sym}
+use Rattle.iova.proofs.Names.{arith, nat_tests, Ends, Parts, Piece, free_of, in_place_of, with_carved, with_pieces, Space}
 use Rattle.iova.proofs.carvings.State.{view_space}
 use Rattle.iova.proofs.space.Space.pieces.Goals as goal
 
@@ -15,30 +9,15 @@ coming stock before chain behind pieces passed =
     if passed then free_of before ++ chain ++ free_of behind ++ pieces
     else in_place_of stock (free_of before ++ chain ++ free_of behind) pieces
 
-all_come : (stock : ℕ) (before : Option Ends) (chain : List Piece) (behind : Option Ends) (pieces : List Piece)
-    → (chain ≡ [] → (before ≡ None) × (behind ≡ None))
-    → ((first : Piece) (rest : List Piece) → chain ≡ first ∷ rest
-    → in_place_of stock (free_of before ++ chain ++ free_of behind) pieces ≡ with_pieces chain pieces)
-    → coming stock before chain behind pieces (length chain == 0) ≡ with_pieces chain pieces
-all_come stock before [] behind pieces f g =
-    let e = f refl in
-    ap (λ o. coming stock o [] behind pieces true) e.0 ∙ ap (λ o. coming stock None [] o pieces true) e.1
-all_come stock before (p ∷ ps) behind pieces f g =
-    let not : length (p ∷ ps) == 0 ≡ false = grind (arith, nat_tests) in
-    ap (coming stock before (p ∷ ps) behind pieces) not ∙ g p ps refl
-
 -- so it is all pieces of the space
 are_all : (a now : Space) (parts : Parts) (chain l pieces : List Piece) (passed : Bool) → passed ≡ (length chain == 0) → pieces ≡ a.pieces
     → chain ≡ l → (l ≡ [] → (parts.before ≡ None) × (parts.behind ≡ None))
     → ((first : Piece) (rest : List Piece) → l ≡ first ∷ rest
     → in_place_of parts.first (free_of parts.before ++ l ++ free_of parts.behind) a.pieces ≡ with_pieces l a.pieces)
     → with_carved l a ≡ now → coming parts.first parts.before chain parts.behind pieces passed ≡ now.pieces
-are_all a now parts chain l pieces passed none tree is f g view =
-    ap (coming parts.first parts.before chain parts.behind pieces) none
-    ∙ ap (λ (ps : List Piece). coming parts.first parts.before chain parts.behind ps (length chain == 0)) tree
-    ∙ ap (λ (ps : List Piece). coming parts.first parts.before ps parts.behind a.pieces (length ps == 0)) is
-    ∙ all_come parts.first parts.before l parts.behind a.pieces f g
-    ∙ ap (λ (v : Space). v.pieces) view
+are_all a now parts chain [] pieces passed none tree is f g view = let e = f refl in cc (e.0, e.1)
+are_all a now parts chain (p ∷ ps) pieces passed none tree is f g view =
+    let not : length (p ∷ ps) == 0 ≡ false = grind (arith, nat_tests) in cc (g p ps refl)
 
 pub returns-clause-pieces : goal.returns-clause-pieces
 returns-clause-pieces c =
@@ -58,5 +37,4 @@ invariant_of-result c =
 
 pub returns-clause-space : goal.returns-clause-space
 returns-clause-space c =
-    subst (λ v. IsSpace v) c.self.view_is (view_space c.self.inside.tree c.self.inside.carved.chain c.self.inside.carved.stock
-    c.self.invariant.0 c.self.invariant.1)
+    view_space c.self.inside.carved.chain c.self.inside.carved.stock c.self.invariant.0 c.self.invariant.1 c.self.view_is

@@ -1,7 +1,5 @@
-use Rattle.std.proofs.Common.{◌≡◌, ◌^◌, ◌*◌, ◌%◌, ◌≤◌, ℕ, List, Result, Ok, Err, IfOk, sym, subst, arith}
-use Rattle.piece_tree.specs.declared.piece.Piece.{Piece}
-use Rattle.iova.specs.Pieces.{IsOrdered}
-use Rattle.iova.specs.Space.{IsLowestFit, IsLowestFrom}
+use Rattle.iova.proofs.Names.{◌≡◌, ◌^◌, ◌*◌, ◌%◌, ◌≤◌, ℕ, List, Result, Ok, Err, IfOk, sym, subst, arith, Piece, IsOrdered, IsLowestFit}
+use Rattle.iova.proofs.Names.{IsLowestFrom}
 use Rattle.iova.proofs.Taken.{unit_is}
 use Rattle.iova.proofs.searches.FromFloor.{first_from, from_first}
 use Rattle.iova.proofs.space.Space.take.Goals as goal

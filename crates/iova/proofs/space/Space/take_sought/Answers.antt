@@ -1,6 +1,4 @@
-use Rattle.std.proofs.Common.{sym, subst, arith}
-use Rattle.dmatypes.specs.Page.{IsPageRange}
-use Rattle.piece_tree.specs.declared.piece.PageState.TheVariants.{Free}
+use Rattle.iova.proofs.Names.{refl, sym, subst, arith, IsPageRange, Free}
 use Rattle.iova.proofs.Taken.{page_range, start_is}
 use Rattle.iova.proofs.carvings.State.{view_space}
 use Rattle.iova.proofs.space.Space.take_sought.Goals as goal
@@ -21,5 +19,5 @@ returns-clause-range c =
 pub returns-clause-space : goal.returns-clause-space
 returns-clause-space c = (
   c.take_behind.ensures.space.0,
-  view_space c.take.new.tree c.take.new.carved.chain c.take.new.carved.stock c.take.ensures.space c.take.ensures.carved,
+  view_space c.take.new.carved.chain c.take.new.carved.stock c.take.ensures.space c.take.ensures.carved refl,
 )

@@ -1,7 +1,4 @@
-use Rattle.std.proofs.Common.{◌≡◌, ◌∷◌, ◌∙◌, ◌+◌, List, length, ap, arith, sym}
-use Rattle.piece_tree.specs.declared.piece.Piece.{Piece}
-use Rattle.piece_tree.specs.Search.{pieces_from}
-use Rattle.iova.specs.Stored.{with_freed}
+use Rattle.iova.proofs.Names.{◌≡◌, ◌∷◌, ◌∙◌, ◌+◌, List, length, ap, arith, sym, Piece, pieces_from, with_freed}
 use Rattle.iova.proofs.searches.Walked.{from_step}
 use Rattle.iova.proofs.tree_iter.TreeIterIterator.next.Goals as goal
 

@@ -1,14 +1,9 @@
-use Rattle.std.proofs.Common.{length, ap, sym, ◌∙◌, subst}
-use Rattle.piece_tree.specs.Pieces.{AreSorted}
-use Rattle.piece_tree.proofs.shapes.Tall.{whole_view}
+use Rattle.piece_tree.proofs.Names.{length, ap, sym, ◌∙◌}
+use Rattle.piece_tree.proofs.shapes.Tall.{view_sorted, whole_view}
 use Rattle.piece_tree.proofs.tree.PieceTree.len.Goals as goal
 
 pub returns-clause-len : goal.returns-clause-len
-returns-clause-len c =
-    let i = c.self.invariant in
-    c.len.ensures ∙ i.1.count ∙ ap length (sym (whole_view c.self.inside.nodes c.self.inside.root i.0 i.1) ∙ c.self.view_is)
+returns-clause-len c = let i = c.self.invariant in c.len.ensures ∙ i.1.count ∙ ap length (sym (whole_view i.1) ∙ c.self.view_is)
 
 pub returns-clause-sorted : goal.returns-clause-sorted
-returns-clause-sorted c =
-    let i = c.self.invariant in
-    subst (λ l. AreSorted 0 l) (sym (whole_view c.self.inside.nodes c.self.inside.root i.0 i.1) ∙ c.self.view_is) i.1.sorted
+returns-clause-sorted c = view_sorted c.self.invariant.1 c.self.view_is

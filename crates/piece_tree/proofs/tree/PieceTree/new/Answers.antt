@@ -2,4 +2,4 @@ use Rattle.piece_tree.proofs.shapes.Tall.{none_view}
 use Rattle.piece_tree.proofs.tree.PieceTree.new.Goals as goal
 
 pub returns : goal.returns
-returns c = none_view c.in_ok-with_capacity.field-0
+returns c = none_view c.in_ok-nodes.nodes

@@ -1,5 +1,5 @@
 -- Free pieces that touch pages, and pages that come free.
-use Rattle.std.specs.Prelude.{ℕ, ◌+◌, ◌&&◌, nat_eq, if◌then◌else◌, Bool, true, false, List, [], ◌∷◌}
+use Rattle.std.specs.Prelude.{ℕ, ◌+◌, ◌&&◌, nat_eq, if◌then◌else◌, List, [], ◌∷◌}
 use Rattle.piece_tree.specs.declared.piece.PageState.TheVariants.{Free}
 use Rattle.piece_tree.specs.declared.piece.Piece.{Piece}
 use Rattle.piece_tree.specs.Laid.{with_piece}
@@ -14,11 +14,6 @@ free_start (p ∷ ps) first = if is_free p.state && nat_eq (p.last + 1) first th
 unfoldable pub free_end : List Piece → ℕ → ℕ
 free_end [] last = last
 free_end (p ∷ ps) last = if is_free p.state && nat_eq p.first (last + 1) then p.last else free_end ps last
-
--- the same by a side
-abbrev pub free_edge : (before : Bool) → List Piece → ℕ → ℕ
-free_edge true pieces page = free_start pieces page
-free_edge false pieces page = free_end pieces page
 
 -- the pages of this one and of the free ones that it touches, as one free piece
 abbrev pub widened : Piece → List Piece → Piece
