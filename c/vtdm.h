@@ -46,7 +46,7 @@
  *    child of a fork of a process with several threads.
  * Every number that is passed may be any number: one outside its limits is refused by a status.
  *
- * MEMORY. The creation of a manager takes all that it ever needs, about 1.8 MiB and VTDM_PAGE_BYTES more for each table frame;
+ * MEMORY. The creation of a manager takes all that it ever needs, about 1.5 MiB and VTDM_PAGE_BYTES more for each table frame;
  * vtdm_destroy gives it back, and no other function asks for any. The words of the table frames are one block of it,
  * asked for by one malloc of VTDM_PAGE_BYTES times the frames and written whole before a creation returns. Those of frame F begin
  * F * VTDM_PAGE_BYTES bytes after those of frame 0, where the block begins. So an allocator that puts this block at host address 0

@@ -108,10 +108,10 @@ static void judge_before(void) {
     refused = 0;
 }
 
-/* A creation asks for about 1.8 MiB, and for a page more for each table frame. */
+/* A creation asks for about 1.5 MiB, and for a page more for each table frame. */
 static void count_bytes(uint64_t frames, enum creation how) {
     struct vtdm manager = VTDM_INIT;
-    const uint64_t pages = frames * VTDM_PAGE_BYTES, beside = UINT64_C(1840) << 10, margin = UINT64_C(100) << 10;
+    const uint64_t pages = frames * VTDM_PAGE_BYTES, beside = UINT64_C(1584) << 10, margin = UINT64_C(100) << 10;
     bytes = 0;
     CHECK(create(&manager, frames, how) == VTDM_OK);
     CHECK(bytes > pages + beside - margin && bytes < pages + beside + margin);
@@ -146,7 +146,8 @@ static bool is_in_order(struct vtdm *manager, uint64_t frames, uint64_t base, ui
     return same;
 }
 
-/* The words of the table frames are one block, frame after frame, and a creation writes all of it. */
+/* The words of the table frames are one block, frame after frame, and a creation writes all of it. It is the only one of its length,
+ * unless the frames are the fewest. */
 static void words_in_order(uint64_t frames, enum creation how) {
     struct vtdm manager = VTDM_INIT;
     uint64_t present;
@@ -332,7 +333,7 @@ int main(void) {
         const enum creation how = i ? DRIVEN : PLAIN;
         count_bytes(VTDM_LEAST_TABLE_FRAMES, how);
         count_bytes(VTDM_MOST_TABLE_FRAMES, how);
-        words_in_order(VTDM_LEAST_TABLE_FRAMES, how);
+        words_in_order(VTDM_LEAST_TABLE_FRAMES + 1, how);
         words_in_order(VTDM_MOST_TABLE_FRAMES, how);
         calls_ask_for_none(how, CALLS / 2);
     }
