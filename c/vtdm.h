@@ -46,11 +46,12 @@
  *    child of a fork of a process with several threads.
  * Every number that is passed may be any number: one outside its limits is refused by a status.
  *
- * MEMORY. The creation of a manager takes all that it ever needs, about 1.5 MiB and VTDM_PAGE_BYTES more for each table frame;
+ * MEMORY. The creation of a manager takes all that it ever needs, about 1.4 MiB and VTDM_PAGE_BYTES more for each table frame;
  * vtdm_destroy gives it back, and no other function asks for any. The words of the table frames are one block of it,
  * asked for by one malloc of VTDM_PAGE_BYTES times the frames and written whole before a creation returns. Those of frame F begin
  * F * VTDM_PAGE_BYTES bytes after those of frame 0, where the block begins. So an allocator that puts this block at host address 0
- * lets a unit walk the tables in place, where the base is 0 (see *A unit of your own*). Contracts say that the words of one frame lie one
+ * lets a unit walk the tables in place, where the base is 0 (see *A unit of your own*). It tells the block by its length, but where there
+ * are VTDM_LEAST_TABLE_FRAMES: then blocks of the domains have this length too. Contracts say that the words of one frame lie one
  * after the other, and that whoever walks them during a map or an unmap finds each page as before it or as after it. Three more things are
  * how the code is. The frames lie so. Its stores are compiled in their order. A word is stored at once, but two and more side by side are
  * cleared by memset: in place yours has to store each of them at once.

@@ -108,10 +108,10 @@ static void judge_before(void) {
     refused = 0;
 }
 
-/* A creation asks for about 1.5 MiB, and for a page more for each table frame. */
+/* A creation asks for about 1.4 MiB, and for a page more for each table frame. */
 static void count_bytes(uint64_t frames, enum creation how) {
     struct vtdm manager = VTDM_INIT;
-    const uint64_t pages = frames * VTDM_PAGE_BYTES, beside = UINT64_C(1584) << 10, margin = UINT64_C(100) << 10;
+    const uint64_t pages = frames * VTDM_PAGE_BYTES, beside = UINT64_C(1400) << 10, margin = UINT64_C(100) << 10;
     bytes = 0;
     CHECK(create(&manager, frames, how) == VTDM_OK);
     CHECK(bytes > pages + beside - margin && bytes < pages + beside + margin);

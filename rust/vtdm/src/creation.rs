@@ -7,7 +7,7 @@ use crate::refused::Refused;
 
 /// Begin and end. The end is [`Drop`].
 impl Manager {
-    /// Makes a manager with 16 to 4096 table frames: no domain, no device attached, nothing mapped. It takes about 1.5 MiB, and 4 KiB
+    /// Makes a manager with 16 to 4096 table frames: no domain, no device attached, nothing mapped. It takes about 1.4 MiB, and 4 KiB
     /// more for each table frame, and no call takes more.
     ///
     /// The table frames are host frames 0 to `frames` - 1; no map takes them. A domain needs one for its root, and a 48-bit domain one more
