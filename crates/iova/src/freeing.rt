@@ -30,16 +30,18 @@ pub(crate) fn set_free(tree: &mut PieceTree, low: u64, pages: Ends) -> u64
 
 /// Tells the tree of the piece that came free, if there is one: its pieces are then those that the space shows.
 #[inline(always)]
-pub(crate) fn put_freed(tree: &mut PieceTree, low: &mut u64, freed: Option<Ends>)
+pub(crate) fn put_freed(tree: &mut PieceTree, low: &mut u64, freed: &mut Option<Ends>)
     requires space { (last : ℕ) × IsSpace (stored last tree.old) }
     requires low { NoneFreeBelow low.old tree.old }
-    requires freed { AreLive freed tree.old }
-    ensures pieces { tree.new ≡ shown freed tree.old }
+    requires freed { AreLive freed.old tree.old }
+    ensures pieces { tree.new ≡ shown freed.old tree.old }
     ensures space { (last : ℕ) → IsSpace (stored last tree.old) → IsSpace (stored last tree.new) }
     ensures low { NoneFreeBelow low.new tree.new }
+    ensures none { freed.new ≡ None }
 {
-    if let Some(pages) = freed {
+    if let Some(pages) = *freed {
         *low = set_free(tree, *low, pages);
+        *freed = None;
     }
 }
 

@@ -137,7 +137,7 @@ impl PageTree {
     /// How many pieces it has.
     pub(crate) fn piece_count(&self) -> usize
         ensures count { result ≡ length self.now.pieces }
-        ensures few { result ≤ MOST_PIECES }
+        ensures few { result ≤ 1024 }
     {
         freeing::count(&self.tree, self.freed)
     }
@@ -146,7 +146,7 @@ impl PageTree {
     #[inline(always)]
     pub(crate) fn most_pieces(&self) -> usize
         ensures most { length self.now.pieces ≤ result }
-        ensures few { result ≤ MOST_PIECES }
+        ensures few { result ≤ 1024 }
     {
         self.tree.len()
     }
@@ -189,8 +189,7 @@ impl PageTree {
         ensures space { IsSpace self.old }
         ensures unchanged { self.new ≡ self.old }
     {
-        freeing::put_freed(&mut self.tree, &mut self.low, self.freed);
-        self.freed = None;
+        freeing::put_freed(&mut self.tree, &mut self.low, &mut self.freed);
         self.judged = None;
         let found = fits::find(&mut self.tree, sought)?;
         self.low = fits::low_found(self.low, found.start, sought);
@@ -222,8 +221,7 @@ impl PageTree {
         if self.freed.is_none() && pages.are(self.judged) {
             return true;
         }
-        freeing::put_freed(&mut self.tree, &mut self.low, self.freed);
-        self.freed = None;
+        freeing::put_freed(&mut self.tree, &mut self.low, &mut self.freed);
         self.judged = None;
         if !freeing::is_live(&self.tree, pages) {
             return false;
@@ -239,8 +237,7 @@ impl PageTree {
         ensures retired { Retires self.old self.new range }
         ensures space { IsSpace self.old × IsSpace self.new }
     {
-        freeing::put_freed(&mut self.tree, &mut self.low, self.freed);
-        self.freed = None;
+        freeing::put_freed(&mut self.tree, &mut self.low, &mut self.freed);
         self.judged = None;
         self.tree.lay(ends_of(range).in_state(PageState::Retired));
     }
@@ -257,8 +254,7 @@ impl PageTree {
             self.freed = Some(pages);
             return;
         }
-        freeing::put_freed(&mut self.tree, &mut self.low, self.freed);
-        self.freed = None;
+        freeing::put_freed(&mut self.tree, &mut self.low, &mut self.freed);
         self.judged = None;
         if freeing::is_live(&self.tree, pages) {
             self.freed = Some(pages);
@@ -276,8 +272,7 @@ impl PageTree {
         requires narrow { piece.last < NUMBERS_END }
         ensures is { self.new ≡ record self.old { pieces = with_piece piece self.old.pieces } }
     {
-        freeing::put_freed(&mut self.tree, &mut self.low, self.freed);
-        self.freed = None;
+        freeing::put_freed(&mut self.tree, &mut self.low, &mut self.freed);
         self.judged = None;
         self.low = fits::low_behind(self.low, piece);
         self.tree.lay(piece);
@@ -290,8 +285,7 @@ impl PageTree {
         ensures is { self.new ≡ with_carved row.now self.old }
         ensures space { IsSpace self.new }
     {
-        freeing::put_freed(&mut self.tree, &mut self.low, self.freed);
-        self.freed = None;
+        freeing::put_freed(&mut self.tree, &mut self.low, &mut self.freed);
         self.judged = None;
         self.low = fits::low_behind(self.low, pages.in_state(PageState::Live));
         self.tree.lay_row(row);
@@ -307,8 +301,7 @@ impl PageTree {
         ensures is { self.new ≡ record self.old { pieces = with_free (pages_as pages PageState.Free) self.old.pieces } }
         ensures space { IsSpace self.old × IsSpace self.new }
     {
-        freeing::put_freed(&mut self.tree, &mut self.low, self.freed);
-        self.freed = None;
+        freeing::put_freed(&mut self.tree, &mut self.low, &mut self.freed);
         self.judged = None;
         self.low = freeing::set_free(&mut self.tree, self.low, pages);
     }

@@ -127,7 +127,7 @@ impl Space {
     /// How many pieces it has.
     pub fn piece_count(&self) -> usize
         ensures count { result ≡ length self.now.pieces }
-        ensures few { result ≤ MOST_PIECES }
+        ensures few { result ≤ 1024 }
     {
         self.tree.piece_count() + carved::more(&self.carved)
     }

@@ -5,7 +5,6 @@ use Rattle.std.specs.Prelude.{length, Option}
 use Rattle.std.specs.Prelude.{Some, None, IsSome}
 use Rattle.slab.specs.Slab.{Slab, get, slab_len}
 use Rattle.piece_tree.specs.declared.piece.Piece.{Piece}
-use Rattle.piece_tree.specs.declared.piece.TheConstants.{MOST_PIECES}
 use Rattle.piece_tree.specs.declared.node.Node.{Node}
 use Rattle.piece_tree.specs.declared.top.TheConstants.{KEYS_END}
 use Rattle.piece_tree.specs.declared.way.TheConstants.{MOST_HEIGHT}
@@ -184,9 +183,9 @@ pub record IsWhole (nodes : Slab Node) (root : Top) (t : Shape) : Type 0 where
   pub here : root ≡ top_of t
   pub stands : Stands (get nodes) t
   pub once : (k : ℕ) → uses t k ≤ 1
-  pub low : height_of t ≤ MOST_HEIGHT
+  pub low : height_of t ≤ 14
   pub sorted : AreSorted 0 (items t)
   pub count : slab_len nodes ≡ length (items t)
-  pub few : length (items t) ≤ MOST_PIECES
-  pub room : MOST_PIECES ≤ nodes.capacity
+  pub few : length (items t) ≤ 1024
+  pub room : 1024 ≤ nodes.capacity
   pub keys : nodes.capacity ≤ KEYS_END

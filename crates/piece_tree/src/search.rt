@@ -20,16 +20,15 @@ pub(crate) fn find(nodes: &Slab<Node>, root: Top, page: u64) -> Option<Piece>
     requires { (t : Shape) × IsWhole nodes.now root t }
     ensures { result ≡ piece_at (pieces_of nodes.now root) page }
 {
-    let mut at = root.root();
-    while let Some(key) = at {
-        let node = &nodes[key as usize];
+    // The root is read before the loop, so that where the nodes lie is read once.
+    let mut node = &nodes[root.root()? as usize];
+    loop {
         let before = page < node.piece.first;
         if !before && page <= node.piece.last {
             return Some(node.piece);
         }
-        at = node.child(before).root();
+        node = &nodes[node.child(before).root()? as usize];
     }
-    None
 }
 
 /// The first piece that begins at a page or behind it.

@@ -74,7 +74,7 @@ impl PieceTree {
     /// How many pieces there are.
     pub fn len(&self) -> usize
         ensures len { result ≡ length self.now }
-        ensures few { result ≤ MOST_PIECES }
+        ensures few { result ≤ 1024 }
         ensures sorted { AreSorted 0 self.now }
     {
         self.nodes.len()
@@ -83,7 +83,7 @@ impl PieceTree {
     /// Adds a piece behind all others.
     pub fn push(&mut self, piece: Piece)
         requires behind { AreSorted 0 (self.old ++ piece ∷ []) }
-        requires room { length self.old < MOST_PIECES }
+        requires room { length self.old < 1024 }
         ensures { self.new ≡ self.old ++ piece ∷ [] }
     {
         self.hand = None;
@@ -136,7 +136,7 @@ impl PieceTree {
         requires first { IsSome (piece_at self.old piece.first) }
         requires last { IsSome (piece_at self.old piece.last) }
         requires some { piece.first ≤ piece.last }
-        requires room { length (with_piece piece self.old) ≤ MOST_PIECES }
+        requires room { length (with_piece piece self.old) ≤ 1024 }
         ensures { self.new ≡ with_piece piece self.old }
     {
         let held = reach(
@@ -155,7 +155,7 @@ impl PieceTree {
     /// Puts a row of pieces, each right behind the one before it, over some pages of one piece. What is left of it stays.
     pub fn lay_row(&mut self, row: &[Piece])
         requires inside { (from : ℕ) × (last : ℕ) × (p : Piece) × (from ≤ last) × IsRow from row.now (last + 1)
-            × (piece_at self.old from ≡ Some p) × (last ≤ p.last) × (length (with_row from row.now last self.old) ≤ MOST_PIECES) }
+            × (piece_at self.old from ≡ Some p) × (last ≤ p.last) × (length (with_row from row.now last self.old) ≤ 1024) }
         ensures { (from last : ℕ) → from ≤ last → IsRow from row.now (last + 1) → self.new ≡ with_row from row.now last self.old }
     {
         let (Some(first), Some(last)) = (row.first(), row.last()) else {

@@ -1,6 +1,5 @@
 -- What the callers of a ring see.
 use Rattle.std.specs.Prelude.{ℕ, ◌-◌, List, [], ◌∷◌, ◌++◌, length, take, reverse}
-use Rattle.queue.specs.declared.ring.TheConstants.Ring.{CAPACITY}
 use Rattle.vtdbits.specs.declared.descriptor.Descriptor.{Descriptor}
 
 -- the descriptors that wait, oldest first. The status is what the last wait that was done wrote. What was taken out of the ring comes
@@ -21,4 +20,4 @@ ring_of waiting status taken = record { waiting = waiting; status = status; take
 -- the ring with one descriptor more, behind those that wait: where the page is full of what was taken, its oldest one
 -- is overwritten
 abbrev pub with_last : Descriptor → Ring → Ring
-with_last d q = ring_of (q.waiting ++ d ∷ []) q.status (take (CAPACITY - length q.waiting) q.taken)
+with_last d q = ring_of (q.waiting ++ d ∷ []) q.status (take (255 - length q.waiting) q.taken)

@@ -53,7 +53,7 @@ impl Ring {
 
     /// Appends a descriptor; where the ring is full, nothing changes.
     pub fn submit(&mut self, descriptor: Descriptor) -> Result<(), RingFull>
-        ensures full { IsErr result ↔ (length self.old.waiting ≡ Self.CAPACITY) }
+        ensures full { IsErr result ↔ (length self.old.waiting ≡ 255) }
         ensures ok { OnOk result (self.new ≡ with_last descriptor self.old) }
         ensures err { OnErr result (self.new ≡ self.old) }
     {
@@ -113,7 +113,7 @@ impl Ring {
     /// How many descriptors wait.
     pub fn pending(&self) -> u64
         ensures count { result ≡ length self.now.waiting }
-        ensures few { length self.now.waiting ≤ Self.CAPACITY }
+        ensures few { length self.now.waiting ≤ 255 }
     {
         ((self.tail + PAIRS - self.head) % PAIRS) as u64
     }

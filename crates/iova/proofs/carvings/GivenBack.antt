@@ -2,7 +2,6 @@
 use Rattle.iova.proofs.Names.{◌≡◌, ℕ, ◌+◌, ◌<◌, ◌≤◌, ◌⊎◌, List, [], ◌++◌, length, max, refl, sym, ◌∙◌, inl, inr, ap, subst, arith}
 use Rattle.iova.proofs.Names.{append-nil, length-append, Range, IsIn, PageState, Piece, Stock, AreCarved, FollowOn, with_carved}
 use Rattle.iova.proofs.Names.{with_pieces, FreesRun, with_free, IsRun, piece_of, state_at, Space, IsSpace}
-use Rattle.iova.proofs.Pieces.{order}
 use Rattle.iova.proofs.Among.{in_append_cases, in_append_left, in_append_right}
 use Rattle.iova.proofs.carvings.Counts.{few_less}
 use Rattle.iova.proofs.FreedRun as run

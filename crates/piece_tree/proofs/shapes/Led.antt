@@ -200,6 +200,10 @@ pub look_start : {nodes : Slab Node} {root : Top} (first last : ℕ) (at : Optio
 look_start first last at e {t} w =
     (record { path = Whole; there = t; is = refl; root = e ∙ ap (λ (v : Top). v.root) w.here; before = tt; behind = tt }, refl)
 
+-- the page lies in a node's piece, or below it
+abbrev pub IsLookingIn : Slab Node → Top → ℕ → Node → Type 0
+IsLookingIn nodes root page node = (key : ℕ) × (get nodes key ≡ Some node) × IsLooking nodes root page (Some key)
+
 abbrev pub IsWalking : Slab Node → Top → ℕ → ℕ → List Step → Option ℕ → ℕ → Type 0
 IsWalking nodes root first last way at depth =
     ((t : Shape) → IsWhole nodes root t → (q : Lies first last at t) × AreSteps way depth q.path) × (length way ≡ 14)

@@ -1,4 +1,4 @@
-use Rattle.iova.proofs.Names.{◌≡◌, ℕ, ◌+◌, List, ◌∷◌, ◌++◌, drop, length, get_or, slice_set, ap, sym, ◌∙◌, get_or-append_seam}
+use Rattle.iova.proofs.Names.{◌≡◌, ℕ, ◌+◌, List, ◌∷◌, ◌++◌, drop, length, get_or, slice_set, ap, ◌∙◌, get_or-append_seam}
 use Rattle.iova.proofs.Names.{set-append_seam, drop-set-add, get_or-drop, Ends, PageState, Retired, Piece, pages_as}
 use Rattle.iova.proofs.chain.Chain.retire.Goals as goal
 

@@ -1,7 +1,7 @@
 use Rattle.iova.proofs.Names.{◌≡◌, ℕ, ◌≤◌, ◌∙◌, List, refl, ap, subst, sym, Range, PageState, Free, Live, Ends, Piece, FreesLive, with_free}
 use Rattle.iova.proofs.Names.{pages_as, piece_of, Space, IsSpace, MayRetire, shown, stored}
 use Rattle.iova.proofs.FreedLive.{frees_live, space_freed_live}
-use Rattle.iova.proofs.Known.{none_of}
+use Rattle.iova.proofs.Known.{none_of, live_none, shown_none}
 use Rattle.iova.proofs.parts.Shows.{Shows, shows}
 use Rattle.iova.proofs.searches.CutAt.{at_in}
 use Rattle.iova.proofs.page_tree.PageTree.free_live.Goals as goal
@@ -43,14 +43,18 @@ returns-then-is_live c =
 
 pub invariant_of-self-else-is_live : goal.invariant_of-self-else-is_live
 invariant_of-self-else-is_live c =
-    (c.put_freed.ensures.space c.self.inside.last c.self.invariant.0, c.put_freed.ensures.low, tt, tt)
+    (c.put_freed.ensures.space c.self.inside.last c.self.invariant.0, c.put_freed.ensures.low, live_none c.put_freed.ensures.none _, tt)
 
 pub free-requires-clause-space : goal.free-requires-clause-space
 free-requires-clause-space c _ =
     let t = shows c.put_freed.ensures.pieces c.self.view_is (c.put_freed.ensures.space c.self.inside.last c.self.invariant.0) in
+    subst (λ l. IsSpace (stored c.self.inside.last (with_free (pages_as c.ends_of-pages.result Free) l)))
+    (sym (shown_none c.put_freed.ensures.none))
     (stays t c.ends_of-pages.ensures.range.some (c.ends_of-pages.ensures.piece Free) c.requires).1
 
 pub returns-clause-freed : goal.returns-clause-freed
 returns-clause-freed c =
     let t = shows c.put_freed.ensures.pieces c.self.view_is (c.put_freed.ensures.space c.self.inside.last c.self.invariant.0) in
-    comes_free t c.ends_of-pages.ensures.range.some (c.ends_of-pages.ensures.piece Free) c.requires c.free.ensures.is
+    comes_free t c.ends_of-pages.ensures.range.some (c.ends_of-pages.ensures.piece Free) c.requires
+    (c.free.ensures.is
+    ∙ ap (λ l. stored c.self.inside.last (with_free (pages_as c.ends_of-pages.result Free) l)) (shown_none c.put_freed.ensures.none))

@@ -1,7 +1,8 @@
-use Rattle.iova.proofs.Names.{◌∙◌, ℕ, ◌+◌, ◌<◌, ◌≤◌, max, List, inl, inr, ap, subst, sym, arith, Piece, NUMBERS_END, Stock, Ends, AreCarved}
+use Rattle.iova.proofs.Names.{AreLive, ◌∙◌, ℕ, ◌+◌, ◌<◌, ◌≤◌, max, List, inl, inr, ap, subst, sym, arith, Piece, NUMBERS_END, Stock, Ends, AreCarved}
 use Rattle.iova.proofs.Names.{FollowOn, with_carved, NoneFreeBelow, Space, IsSpace, stored}
 use Rattle.iova.proofs.carvings.Row.{IsOneRow, none_below_carved, none_below_row, one_row}
 use Rattle.iova.proofs.carvings.State.{carved_space}
+use Rattle.iova.proofs.Known.{live_none, shown_none}
 use Rattle.iova.proofs.parts.Shows.{Shows, shows}
 use Rattle.iova.proofs.page_tree.PageTree.put_row.Goals as goal
 
@@ -32,7 +33,7 @@ invariant_of-self c =
     let view : Space = with_carved c.args.row.now (stored c.self.inside.last c.put_freed.new.tree) in
     let first = ap (λ (p : Piece). p.first) c.in_state.ensures in
     let last = ap (λ (p : Piece). p.last) c.in_state.ensures in
-    subst (λ l. IsSpace (stored c.self.inside.last l) × NoneFreeBelow low.result l × Unit {0} × Unit {0}) (sym is) (
+    subst (λ l. IsSpace (stored c.self.inside.last l) × NoneFreeBelow low.result l × AreLive c.put_freed.new.freed l × Unit {0}) (sym is) (
       carved_space r.stands,
       elim low.ensures.is [
         | inl h ↦ subst (λ n. NoneFreeBelow n view.pieces) (sym (h.1 ∙ ap (λ n. max c.put_freed.new.low (n + 1)) last))
@@ -40,7 +41,7 @@ invariant_of-self c =
         | inr h ↦ subst (λ n. NoneFreeBelow n view.pieces) (sym h.1)
             (none_below_carved r.stands c.put_freed.new.low c.put_freed.ensures.low)
       ],
-      tt,
+      live_none c.put_freed.ensures.none _,
       tt,
     )
 
@@ -48,7 +49,8 @@ pub returns : goal.returns
 returns c =
     let t = shows c.put_freed.ensures.pieces c.self.view_is (c.put_freed.ensures.space c.self.inside.last c.self.invariant.0) in
     let r = row_in t c.requires.carved c.args.pages c.requires.pages in
-    let is = c.lay_row.ensures c.args.pages.first c.args.pages.last c.requires.pages.1 r.follows ∙ r.same in
+    let is = shown_none c.put_freed.ensures.none
+    ∙ c.lay_row.ensures c.args.pages.first c.args.pages.last c.requires.pages.1 r.follows ∙ r.same in
     record {
       is = ap (λ l. stored c.self.inside.last l) is ∙ ap (λ (v : Space). with_carved c.args.row.now v) t.is;
       space = subst (λ l. IsSpace (stored c.self.inside.last l)) (sym is) (carved_space r.stands);

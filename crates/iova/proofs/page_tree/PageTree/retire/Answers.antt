@@ -1,6 +1,7 @@
-use Rattle.iova.proofs.Names.{arith, ℕ, List, refl, ◌≡◌, ◌∙◌, ◌≤◌, IsSome, ap, subst, sym, Piece, Retired, with_piece, piece_at, Retires}
+use Rattle.iova.proofs.Names.{AreLive, arith, ℕ, List, refl, ◌≡◌, ◌∙◌, ◌≤◌, IsSome, ap, subst, sym, Piece, Retired, with_piece, piece_at, Retires}
 use Rattle.iova.proofs.Names.{NoneFreeBelow, piece_of, Space, IsSpace, MayRetire, stored, Range}
 use Rattle.iova.proofs.LowestFree.{none_below_put}
+use Rattle.iova.proofs.Known.{live_none, shown_none}
 use Rattle.iova.proofs.parts.Shows.{Shows, shows}
 use Rattle.iova.proofs.Partition.{put_lies}
 use Rattle.iova.proofs.Taken.{retires, space_retired}
@@ -45,11 +46,11 @@ invariant_of-self c =
     let l = laid t c.requires c.ends_of.ensures.range.some (c.in_state.ensures ∙ c.ends_of.ensures.piece Retired) in
     let used = ap (λ (p : Piece). p.state) c.in_state.ensures in
     let p = c.in_state.result in
-    subst (λ l. IsSpace (stored c.self.inside.last l) × NoneFreeBelow c.put_freed.new.low l × Unit {0} × Unit {0}) (sym c.lay.ensures) (
+    subst (λ l. IsSpace (stored c.self.inside.last l) × NoneFreeBelow c.put_freed.new.low l × AreLive c.put_freed.new.freed l × Unit {0}) (sym c.lay.ensures) (
       l.space,
       none_below_put c.put_freed.new.low p.first p.last p.state c.put_freed.new.tree t.space.ordered l.some c.put_freed.ensures.low
           (λ e. absurd (cc)),
-      tt,
+      live_none c.put_freed.ensures.none _,
       tt,
     )
 
@@ -57,7 +58,7 @@ pub returns : goal.returns
 returns c =
     let t = shows c.put_freed.ensures.pieces c.self.view_is (c.put_freed.ensures.space c.self.inside.last c.self.invariant.0) in
     let l = laid t c.requires c.ends_of.ensures.range.some (c.in_state.ensures ∙ c.ends_of.ensures.piece Retired) in
-    let is = ap (λ l. stored c.self.inside.last l) (sym c.lay.ensures) in
+    let is = ap (λ l. stored c.self.inside.last l) (sym (shown_none c.put_freed.ensures.none ∙ c.lay.ensures)) in
     record {
       retired = subst (λ v. Retires c.args.self.now v c.args.range) is l.retires;
       space = (t.now_space, subst (λ v. IsSpace v) is l.space);
