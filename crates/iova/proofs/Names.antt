@@ -23,7 +23,7 @@ pub use Rattle.piece_tree.specs.Laid.{IsRow, rest_above, rest_below, with_piece,
 unfoldable pub use Rattle.piece_tree.specs.Laid.{part_above, part_below}
 pub use Rattle.piece_tree.specs.Pieces.{AreSorted, Holds, IsPiece, is_free}
 unfoldable pub use Rattle.piece_tree.specs.Pieces.{piece_at}
-pub use Rattle.piece_tree.specs.Search.{HasNoRoom, IsFound, IsRoundUp, IsShortBefore, first_or}
+pub use Rattle.piece_tree.specs.Search.{HasNoRoom, IsFound, IsRoundUp, IsShortBefore, IsStarting, first_or}
 unfoldable pub use Rattle.piece_tree.specs.Search.{pieces_from}
 pub use Rattle.piece_tree.specs.Tree.{free_pages}
 pub use Rattle.piece_tree.specs.declared.piece.PageState.{PageState}

@@ -102,7 +102,7 @@ pub(crate) fn free_ends_at(tree: &PieceTree, pages: Ends) -> Ends
     ensures first { result.first ≡ free_start tree.now pages.first }
     ensures last { result.last ≡ free_end tree.now pages.last }
 {
-    let behind = tree.piece_at(pages.last + 1);
+    let behind = tree.starting_at(pages.last + 1);
     Ends {
         first: free_start_at(tree, pages.first),
         last: end(behind, pages.last),

@@ -158,8 +158,8 @@ pub(crate) fn live_at(tree: &PieceTree, freed: Option<Ends>, page: u64) -> Optio
 pub(crate) fn is_live(tree: &PieceTree, pages: Ends) -> bool
     ensures { IsTrue result ↔ (piece_at tree.now pages.first ≡ Some (pages_as pages PageState.Live)) }
 {
-    match tree.piece_at(pages.first) {
-        Some(piece) => pages.are(Some(Ends::of(piece))) && matches!(piece.state, PageState::Live),
+    match tree.starting_at(pages.first) {
+        Some(piece) => piece.last == pages.last && matches!(piece.state, PageState::Live),
         None => false,
     }
 }

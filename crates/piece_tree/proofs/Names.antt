@@ -5,7 +5,7 @@ pub use Rattle.piece_tree.specs.Laid.{IsRow, part_beside, rest_above, rest_below
 unfoldable pub use Rattle.piece_tree.specs.Laid.{part_above, part_below}
 pub use Rattle.piece_tree.specs.Pieces.{AreSorted, HasAny, Holds, IsPiece}
 unfoldable pub use Rattle.piece_tree.specs.Pieces.{piece_at}
-pub use Rattle.piece_tree.specs.Search.{HasNoRoom, IsFound, IsNarrowBefore, IsRoundUp, IsShortBefore, IsStartIn, first_of}
+pub use Rattle.piece_tree.specs.Search.{HasNoRoom, IsFound, IsNarrowBefore, IsRoundUp, IsShortBefore, IsStartIn, first_of, IsStarting}
 unfoldable pub use Rattle.piece_tree.specs.Search.{pieces_from}
 pub use Rattle.piece_tree.specs.Top.{Top}
 pub use Rattle.piece_tree.specs.Tree.{AreNear, AreParts, CanHang, Empty, Fork, IsBelow, IsTop, IsWhole, Joins, KeepsCount, Links, Look}

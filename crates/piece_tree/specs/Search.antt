@@ -4,7 +4,7 @@ use Rattle.std.specs.Prelude.{if◌then◌else◌, List, [], ◌∷◌, ◌++◌
 use Rattle.std.specs.List.{AllByRecursion}
 use Rattle.piece_tree.specs.declared.node.Node.{Node}
 use Rattle.piece_tree.specs.declared.piece.Piece.{Piece}
-use Rattle.piece_tree.specs.Pieces.{is_free}
+use Rattle.piece_tree.specs.Pieces.{is_free, piece_at}
 use Rattle.piece_tree.specs.Tree.{free_pages}
 
 -- the first of the pieces, or this where there is none
@@ -19,6 +19,11 @@ first_of ps = first_or ps None
 unfoldable pub pieces_from : ℕ → List Piece → List Piece
 pieces_from page [] = []
 pieces_from page (p ∷ ps) = if nat_le page p.first then p ∷ ps else pieces_from page ps
+
+-- the piece that begins at a page, if one does
+abbrev pub IsStarting : ℕ → List Piece → Option Piece → Type 0
+IsStarting page ps None = (p : Piece) → piece_at ps page ≡ Some p → p.first ≡ page → ⊥
+IsStarting page ps (Some p) = (p.first ≡ page) × (piece_at ps page ≡ Some p)
 
 -- it begins at the page or behind it, or fewer pages of it are free
 abbrev pub IsShortBefore : (page pages : ℕ) → Piece → Type 0

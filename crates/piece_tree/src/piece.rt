@@ -1,6 +1,6 @@
 //! Pieces: runs of pages of one state.
 
-ghost use Rattle.std.specs.Prelude.{◌≡◌};
+ghost use Rattle.std.specs.Prelude.{◌≡◌, ◌+◌, ◌<◌, ◌≤◌, ◌↔◌, IsTrue};
 
 /// Page numbers, and counts of pages, are below it: no sum of two of them wraps (own).
 pub const NUMBERS_END: u64 = 1 << 40;
@@ -31,7 +31,21 @@ pub struct Piece {
 }
 
 impl Piece {
-    ghost use Rattle.piece_tree.specs.Pieces.{is_free};
+    ghost use Rattle.piece_tree.specs.Pieces.{HasAny, IsPiece, is_free};
+
+    /// Whether it has one of the pages from a first to a last one. One comparison tells it: with one at each end, a way down a tree would
+    /// branch on the side that it goes to, which is as good as random.
+    #[inline(always)]
+    pub(crate) fn has_any(&self, first: u64, last: u64) -> bool
+        requires piece { IsPiece self.now }
+        requires pages { first ≤ last }
+        requires narrow { last < first + NUMBERS_END }
+        ensures { IsTrue result ↔ HasAny self.now first last }
+    {
+        // How far the last page lies behind the first of the piece, or nearly 2^64 where it lies before that.
+        let reach = last.wrapping_sub(self.first);
+        reach <= (last - first) + (self.last - self.first)
+    }
 
     /// Whether its pages are free.
     pub fn is_free(&self) -> bool

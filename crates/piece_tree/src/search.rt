@@ -3,7 +3,7 @@
 ghost use Rattle.std.specs.Prelude.{◌≡◌, ◌+◌, ◌^◌, ◌<◌, ◌≤◌, ◌↔◌, ℕ, IfSome, IfNone, IsTrue, true, false};
 ghost use Rattle.std.specs.List.{AllByRecursion};
 ghost use Rattle.piece_tree.specs.Pieces.{IsPiece, piece_at};
-ghost use Rattle.piece_tree.specs.Search.{HasNoRoom, IsFound, IsNarrowBefore, IsRoundUp, IsShortBefore, IsStartIn};
+ghost use Rattle.piece_tree.specs.Search.{HasNoRoom, IsFound, IsNarrowBefore, IsRoundUp, IsShortBefore, IsStartIn, IsStarting};
 ghost use Rattle.piece_tree.specs.Search.{first_of, pieces_from};
 ghost use Rattle.piece_tree.specs.Tree.{IsWhole, Shape, items, pieces_of};
 ghost use Rattle.piece_tree.specs.Way.{IsHand};
@@ -23,11 +23,24 @@ pub(crate) fn find(nodes: &Slab<Node>, root: Top, page: u64) -> Option<Piece>
     // The root is read before the loop, so that where the nodes lie is read once.
     let mut node = &nodes[root.root()? as usize];
     loop {
-        let before = page < node.piece.first;
-        if !before && page <= node.piece.last {
+        if node.piece.has_any(page, page) {
             return Some(node.piece);
         }
-        node = &nodes[node.child(before).root()? as usize];
+        node = &nodes[node.child(page < node.piece.first).root()? as usize];
+    }
+}
+
+/// The piece that begins at a page.
+pub(crate) fn starting_at(nodes: &Slab<Node>, root: Top, page: u64) -> Option<Piece>
+    requires { (t : Shape) × IsWhole nodes.now root t }
+    ensures { IsStarting page (pieces_of nodes.now root) result }
+{
+    let mut node = &nodes[root.root()? as usize];
+    loop {
+        if page == node.piece.first {
+            return Some(node.piece);
+        }
+        node = &nodes[node.child(page < node.piece.first).root()? as usize];
     }
 }
 

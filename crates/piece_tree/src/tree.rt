@@ -7,7 +7,7 @@ use crate::edits::{lay_over, lay_piece};
 use crate::grafts::add;
 use crate::node::Node;
 use crate::piece::{MOST_PIECES, NUMBERS_END, Piece};
-use crate::search::{are_short_before, find, first_from, go_fit};
+use crate::search::{are_short_before, find, first_from, go_fit, starting_at};
 use crate::top::{KEYS_END, NO_TREE, Top};
 use crate::way::{Held, MOST_HEIGHT, NO_STEP, Step, reach};
 use slab::Slab;
@@ -42,7 +42,7 @@ impl Model for PieceTree {
 impl PieceTree {
     ghost use Rattle.piece_tree.specs.Pieces.{AreSorted, piece_at};
     ghost use Rattle.piece_tree.specs.Laid.{IsRow, with_piece, with_row};
-    ghost use Rattle.piece_tree.specs.Search.{HasNoRoom, IsFound, IsShortBefore, first_of, pieces_from};
+    ghost use Rattle.piece_tree.specs.Search.{HasNoRoom, IsFound, IsShortBefore, IsStarting, first_of, pieces_from};
     ghost use Rattle.std.specs.List.{AllByRecursion};
 
     /// No pieces.
@@ -96,6 +96,13 @@ impl PieceTree {
         ensures sorted { AreSorted 0 self.now }
     {
         find(&self.nodes, self.root, page)
+    }
+
+    /// The piece that begins at a page.
+    pub fn starting_at(&self, page: u64) -> Option<Piece>
+        ensures { IsStarting page self.now result }
+    {
+        starting_at(&self.nodes, self.root, page)
     }
 
     /// The first piece that begins at a page or behind it.

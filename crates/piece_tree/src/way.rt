@@ -3,6 +3,7 @@
 ghost use Rattle.std.specs.Prelude.{◌≡◌, ◌<◌, ◌≤◌, IfSome, IfNone, IsSome};
 ghost use Rattle.slab.specs.Slab.{get};
 ghost use Rattle.piece_tree.specs.Pieces.{piece_at};
+ghost use Rattle.piece_tree.specs.declared.piece.TheConstants.{NUMBERS_END};
 ghost use Rattle.piece_tree.specs.Tree.{IsWhole, KeepsCount, Shape, items};
 ghost use Rattle.piece_tree.specs.Way.{Above, AreSteps, CanLift, CanMend, GoesBehind, IsAtHand, IsStepAbove, Mends, Reaches};
 
@@ -37,18 +38,21 @@ pub(crate) struct Held {
 // Goes down to the highest piece that has one of the pages from a first to a last one: some piece has the first.
 fn walk(nodes: &Slab<Node>, root: Top, first: u64, last: u64, way: &mut [Step; MOST_HEIGHT]) -> Held
     requires tree { (t : Shape) × IsWhole nodes.now root t × IsSome (piece_at (items t) first) }
-    requires pages { first ≤ last }
+    requires pages { (first ≤ last) × (last < NUMBERS_END) }
     ensures { (t : Shape) → IsWhole nodes.now root t → Reaches nodes.now way.new first last result t }
 {
     let mut at = root.root();
     let mut depth = 0;
     while let Some(key) = at {
         let node = &nodes[key as usize];
-        let before = last < node.piece.first;
-        if !before && first <= node.piece.last {
+        if node.piece.has_any(first, last) {
             return Held { key, depth };
         }
-        way[depth] = Step { key, before };
+        let before = last < node.piece.first;
+        // Field by field: a whole step is copied with what lies between its fields.
+        let step = &mut way[depth];
+        step.key = key;
+        step.before = before;
         at = node.child(before).root();
         depth += 1;
     }
@@ -65,7 +69,7 @@ pub(crate) fn reach(
     hand: Option<Held>,
 ) -> Held
     requires tree { (t : Shape) × IsWhole nodes.now root t × IsAtHand way.old hand t × IsSome (piece_at (items t) first) }
-    requires pages { first ≤ last }
+    requires pages { (first ≤ last) × (last < NUMBERS_END) }
     ensures { (t : Shape) → IsWhole nodes.now root t → IsAtHand way.old hand t → Reaches nodes.now way.new first last result t }
 {
     if let Some(held) = hand {

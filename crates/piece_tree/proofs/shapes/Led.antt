@@ -1,11 +1,13 @@
 -- Ways down a tree.
+use Rattle.std.specs.Bool.{IsTrue}
 use Rattle.piece_tree.proofs.Names.{◌≡◌, ℕ, ◌+◌, ◌<◌, ◌≤◌, max, Bool, true, false, List, [], ◌∷◌, ◌++◌, length, Option, Some, None, refl}
 use Rattle.piece_tree.proofs.Names.{ap, sym, ◌∙◌, arith, append_assoc, get_or-set_same, get_or-set_other, slice_set, IsSome, Slab}
 use Rattle.piece_tree.proofs.Names.{get, Top, Piece, Node, Held, Step, AreSorted, Look, Shape, Empty, Fork, items, height_of, root_of}
 use Rattle.piece_tree.proofs.Names.{top_of, joint, at_root, Stands, IsWhole, Above, Whole, Beside, plug, front, back, AreSteps, IsHand}
-use Rattle.piece_tree.proofs.Names.{among, append-nil, AreAbove, IsPiece, AllByRecursion, Lies, Reaches}
+use Rattle.piece_tree.proofs.Names.{among, append-nil, AreAbove, HasAny, IsPiece, AllByRecursion, Lies, Reaches, nat_lt, nat_tests, inl, inr}
 use Rattle.piece_tree.proofs.shapes.Forks.{is_there, none_empty}
 use Rattle.piece_tree.proofs.shapes.Mended.{plug-items, plug_stands, steps_few}
+use Rattle.piece_tree.proofs.shapes.Tall.{order}
 use Rattle.piece_tree.proofs.shapes.Sorted.{all_append, all_left, all_right, plug-parts, sorted_at, ends_below, begins_above}
 
 -- ---- what lies at a root
@@ -112,6 +114,9 @@ module _ {nodes : Slab Node} {root : Top} {at : Option ℕ} {t : Shape} (w : IsW
       pub placed-sorted : AreSorted 0 ((front x.path ++ items under.l) ++ node.piece ∷ (items under.r ++ back x.path))
       placed-sorted = rw placed-all at w.sorted
 
+      pub placed-piece : IsPiece node.piece
+      placed-piece = (sorted_at 0 (front x.path ++ items under.l) node.piece (items under.r ++ back x.path) placed-sorted).1
+
       -- the tree on a side, and the one beside it
       abbrev pub down : Bool → Shape
       down true = under.l
@@ -140,6 +145,13 @@ module _ {nodes : Slab Node} {root : Top} {at : Option ℕ} {t : Shape} (w : IsW
           falls false y s = root_falls (get nodes) at to x.there under.r x.root placed.0 y s.4 (omega (arith, ap height_of under.is))
 
 -- ---- down to pages
+
+-- pages of which a piece has none lie behind it, where they don't lie before it
+pub comes-behind : (p : Piece) (first last : ℕ) → (HasAny p first last → IsTrue false) → nat_lt last p.first ≡ false → p.last < first
+comes-behind p first last none e = elim (order first p.last) [
+  | inl a ↦ let no = none (grind (arith, nat_tests), a) in absurd (cc)
+  | inr a ↦ a
+]
 
 abbrev pub lies_at : {first last : ℕ} {at : Option ℕ} {t : Shape} → Lies first last at t → Place at t
 lies_at q = record { path = q.path; there = q.there; is = q.is; root = q.root }

@@ -1,7 +1,7 @@
 -- The list of a tree, at the place of a page.
-use Rattle.piece_tree.proofs.Names.{◌≡◌, ℕ, ◌<◌, ◌≤◌, List, [], ◌∷◌, ◌++◌, length, Option, Some, None, refl, ap, sym, ◌∙◌, inl, inr, ◌⊎◌}
+use Rattle.piece_tree.proofs.Names.{◌≡◌, ℕ, ◌+◌, ◌<◌, ◌≤◌, List, [], ◌∷◌, ◌++◌, length, Option, Some, None, refl, ap, sym, ◌∙◌, inl, inr, ◌⊎◌}
 use Rattle.piece_tree.proofs.Names.{arith, nat_tests, AllByRecursion, Slab, get, slab_len, Top, Piece}
-use Rattle.piece_tree.proofs.Names.{MOST_PIECES, Node, AreSorted, Holds, piece_at, Shape, items, IsWhole, Above}
+use Rattle.piece_tree.proofs.Names.{IsSome, MOST_PIECES, NUMBERS_END, Node, AreSorted, Holds, piece_at, Shape, items, IsWhole, Above}
 use Rattle.piece_tree.proofs.Names.{among, front, back, Lies, WholeBecomes}
 use Rattle.piece_tree.proofs.shapes.Led.{lies_at, placed-all, placed-none, placed-sorted, under}
 use Rattle.piece_tree.proofs.shapes.Sorted.{all_map, ends_below}
@@ -62,6 +62,15 @@ found_split [] page p e = absurd (cc)
 found_split (q ∷ ps) page p e = elim (at-first page q ps) [
   | inl h ↦ let is : q ≡ p = let x = h.1 in cc in ([], ps, ap (λ x. x ∷ ps) is, rw is at h.0)
   | inr h ↦ let r = found_split ps page p (sym h ∙ e) in (q ∷ r.0, r.1, ap (λ l. q ∷ l) r.2, r.3)
+]
+
+-- a page that lies in a piece is a number that no sum overflows
+pub page_low : (from page : ℕ) (ps : List Piece) → AreSorted from ps → IsSome (piece_at ps page) → page < NUMBERS_END
+unfolding piece_at
+page_low from page [] s h = absurd (cc)
+page_low from page (p ∷ ps) s h = elim (at-first page p ps) [
+  | inl a ↦ omega (arith, a.0.1, s.1.1)
+  | inr e ↦ page_low (p.last + 1) page ps s.2 (rw e at h)
 ]
 
 -- where a way down to pages ends

@@ -6,7 +6,7 @@ index-requires c = let q = c.requires.tree in hand-there q.1 (rw c.in-Some.is at
 
 pub returns-then-last-piece : goal.returns-then-last-piece
 returns-then-last-piece c t w h =
-    hand-reaches w (rw c.in-Some.is at h) c.index.ensures c.if-piece-first.true c.if-last-piece.true c.requires.pages
+    hand-reaches w (rw c.in-Some.is at h) c.index.ensures c.if-piece-first.true c.if-last-piece.true c.requires.pages.0
 
 pub walk-requires-clause-tree : goal.walk-requires-clause-tree
 walk-requires-clause-tree c = let q = c.requires.tree in (q.0, q.1, q.3)

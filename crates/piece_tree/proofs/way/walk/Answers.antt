@@ -1,8 +1,7 @@
 use Rattle.piece_tree.proofs.Names.{arith, sym, ◌∙◌, subst, length-set, IsSome, None, Piece, AreSteps, Lies, nat_tests, refl}
 use Rattle.piece_tree.proofs.shapes.Placed.{found-none}
-use Rattle.piece_tree.proofs.shapes.Led.{lies_at, look_start, lies-falls, placed-there, walk-few, walk-leads}
+use Rattle.piece_tree.proofs.shapes.Led.{comes-behind, lies_at, look_start, lies-falls, placed-piece, placed-there, walk-few, walk-leads}
 use Rattle.piece_tree.proofs.way.walk.Goals as goal
-use Rattle.piece_tree.proofs.way.walk.Goals.{else-not-before-via-then-not-before+else-first-node, else-not-before-via-else-not-before}
 
 pub loop-at-init : goal.loop-at-init
 loop-at-init c = (
@@ -37,15 +36,17 @@ loop-at-preserved c = (
   (λ t w. let l = c.loop-at.invariant.0 t w in
       walk-leads w l.0 c.in-Some.is c.index-node.ensures _ c.child.result c.child.ensures.before c.child.ensures.behind _
       c.root-at-in-Some.ensures c.loop-at.way c.loop-at.depth l.1 c.loop-at.invariant.1 (λ e. grind (arith, nat_tests))
-      (λ e. elim c.else-not-before.branch [
-        | else-not-before-via-then-not-before+else-first-node v ↦ v.if-first-node.false
-        | else-not-before-via-else-not-before v ↦ let h = v.if-not-before.false in absurd (grind (arith, nat_tests))
-      ])),
+      (comes-behind c.index-node.result.now.piece _ _ c.if-has_any.ensures.1)),
   length-set c.loop-at.way c.loop-at.depth _ ∙ c.loop-at.invariant.1,
 )
 
-pub returns-then-first-node : goal.returns-then-first-node
-returns-then-first-node c t w =
+pub has_any-requires-clause-piece : goal.has_any-requires-clause-piece
+has_any-requires-clause-piece c =
+    let q = c.requires.tree in
+    placed-piece q.1 (lies_at (c.loop-at.invariant.0 q.0 q.1).0) c.in-Some.is c.index-node.ensures
+
+pub returns-then-has_any : goal.returns-then-has_any
+returns-then-has_any c t w =
     let l = subst (λ a. (q : Lies c.args.first c.args.last a t) × AreSteps c.loop-at.way c.loop-at.depth q.path) c.in-Some.is
     (c.loop-at.invariant.0 t w) in
     record {
@@ -53,12 +54,12 @@ returns-then-first-node c t w =
       steps = l.1;
       node = c.index-node.result.now;
       there = c.index-node.ensures;
-      has = (grind (arith, nat_tests, c.if-not-before.true), c.if-first-node.true);
+      has = c.if-has_any.ensures.0 refl;
     }
 
 pub unreachable-requires : goal.unreachable-requires
 unreachable-requires c =
     let q = c.requires.tree in
-    let n = found-none q.1 (c.loop-at.invariant.0 q.0 q.1).0 c.requires.pages c.in_default.is in
+    let n = found-none q.1 (c.loop-at.invariant.0 q.0 q.1).0 c.requires.pages.0 c.in_default.is in
     let x : IsSome {T = Piece} None = subst (λ o. IsSome o) (sym n) q.2 in
     cc

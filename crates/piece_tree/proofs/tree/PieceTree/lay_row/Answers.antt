@@ -1,5 +1,6 @@
 use Rattle.piece_tree.proofs.Names.{ap, sym, ◌∙◌, with_row}
 use Rattle.piece_tree.proofs.shapes.Over.{can-lay}
+use Rattle.piece_tree.proofs.shapes.Placed.{page_low}
 use Rattle.piece_tree.proofs.shapes.Rows.{row-inside, row-is}
 use Rattle.piece_tree.proofs.shapes.Tall.{whole_view}
 use Rattle.piece_tree.proofs.tree.PieceTree.lay_row.Goals as goal
@@ -9,7 +10,8 @@ reach-held-requires c =
     let i = c.self.invariant in
     let s = c.in-Some-Some in
     let r = row-inside c.args.row.now c.args.self.now _ _ c.requires.inside (s.ensures).item.3 (s.ensures').item.3 in
-    record { pages = r.0; tree = (i.0, i.1, i.2, rw (sym c.self.view_is ∙ whole_view i.1) at r.2) }
+    let e = sym c.self.view_is ∙ whole_view i.1 in
+    record { pages = (r.0, page_low 0 _ _ i.1.sorted (rw e at r.3)); tree = (i.0, i.1, i.2, rw e at r.2) }
 
 pub lay_over-laid-requires : goal.lay_over-laid-requires
 lay_over-laid-requires c =
