@@ -97,12 +97,14 @@ impl Judged {
     }
 }
 
-// The third thread: hands the history on as long as drivers are at work, and has each event judged.
+// The third thread: hands the history on whenever its port has seen that the room is full, as long as drivers are at work, and has each
+// event judged.
 fn hand_on<B: Owner, R: Wait>(
     rt: &R,
     manager: &Manager<B>,
     rows: &Rows<B>,
     at_work: &AtomicU64,
+    mut port: Port<B>,
     mut mine: Share<B>,
     mut epoch: Epoch<B>,
     mut judged: Judged,
@@ -113,8 +115,10 @@ fn hand_on<B: Owner, R: Wait>(
         if at_work.load(Ordering::SeqCst) == 0 {
             break;
         }
-        manager.hand_on(rt, rows, &mut mine, &mut epoch);
-        judged.judge(epoch.first(), epoch.events())?;
+        if port.count(rows) >= judged.events.saturating_add(ROOM) {
+            manager.hand_on(rt, rows, &mut mine, &mut epoch);
+            judged.judge(epoch.first(), epoch.events())?;
+        }
         yield_now();
     }
     Ok((mine, epoch, judged))
@@ -138,13 +142,14 @@ fn handed_on<B: Owner + Send + Sync, R: Threads + Wait + Abort + Sync>(
     let Made {
         manager,
         rows,
+        mut ports,
         mut shares,
         epoch,
-        ..
     } = Manager::<B>::new(alloc, seed)?;
     let one = shares.pop().ok_or("a share")?;
     let two = shares.pop().ok_or("a share")?;
     let three = shares.pop().ok_or("a share")?;
+    let port = ports.pop().ok_or("a port")?;
     let judged = Judged {
         checker: Checker::new(alloc, TABLE_FRAMES),
         events: 0,
@@ -161,7 +166,7 @@ fn handed_on<B: Owner + Send + Sync, R: Threads + Wait + Abort + Sync>(
                 || drive(rt, shared, rows_seen, working, two),
             )
         },
-        || hand_on(rt, shared, rows_seen, working, three, epoch, judged),
+        || hand_on(rt, shared, rows_seen, working, port, three, epoch, judged),
     );
     let (three, mut epoch, mut judged) = handed?;
     for share in [drivers.0, drivers.1, three] {
